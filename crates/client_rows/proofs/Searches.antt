@@ -1,5 +1,5 @@
 -- What is found among rows, and what is left of them.
-use Rattle.std.proofs.Common.{◌++◌, append_assoc, fold, rules, subst, ◌≡◌, ◌<◌, ◌⊎◌, ◌+◌, ℕ, Bool, true, false, not, ◌&&◌, nat_le, List, [], ◌∷◌}
+use Rattle.std.proofs.Common.{◌++◌, append_assoc, fold, rules, subst, ◌≡◌, ◌<◌, ◌⊎◌, ◌+◌, ℕ, Bool, true, false, not, ◌&&◌, nat_le, List, [], ◌∷◌, length}
 use Rattle.std.proofs.Common.{Option, None, Some, refl, sym, ap, ◌∙◌, inl, inr, arith}
 use Rattle.std.proofs.lemmas.Bool.{cases_Bool}
 use Rattle.std.proofs.lemmas.List.{append-nil}
@@ -175,3 +175,20 @@ rows_refilled front (r ∷ rows) sorted =
     ap (λ (l : List Row). fold (λ kept row. with_row kept row.map (origin_of row)) l rows) last
     ∙ rows_refilled (front ++ r ∷ []) rows (subst (λ (l : List Row). IsStrictlySortedBy row_cmp l) (sym whole) sorted)
     ∙ whole
+
+-- ### One row more
+
+-- a row whose map, link and client have none is one more
+pub row_more : (r : Row) (rows : List Row) → is_some (row_of rows r.map r.link r.client) ≡ false → length (placed row_cmp rows r) ≡ length rows + 1
+row_more r [] none = refl
+row_more r (x ∷ rows) none =
+    elim (row_cmp r x) as (λ o. row_cmp r x ≡ o → length (match_ordering o (r ∷ x ∷ rows) (r ∷ rows) (x ∷ placed row_cmp rows r)) ≡ length (x ∷ rows) + 1) [
+      | Less ↦ λ _. omega arith
+      | Equal ↦ λ same.
+          let here : is_of r.map r.link r.client x ≡ true = grind (arith, nat_tests, same) in
+          let clash : true ≡ false = rw here at none in absurd (cc)
+      | Greater ↦ λ more.
+          let other : is_of r.map r.link r.client x ≡ false = grind (arith, nat_tests, more) in
+          let later : is_some (row_of rows r.map r.link r.client) ≡ false = rw other at none in
+          let rest = row_more r rows later in omega (arith, rest)
+    ] refl

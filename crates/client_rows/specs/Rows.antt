@@ -54,6 +54,11 @@ with_row rows map origin =
       seq = greater (row_of rows map origin.link origin.client) origin.seq;
     })
 
+-- the rows after a put for a write, if it is for one
+abbrev pub rows_after : List Row → (map : ℕ) → Option Named → List Row
+rows_after rows map None = rows
+rows_after rows map (Some origin) = with_row rows map origin
+
 -- the rows without those of a link of a map
 abbrev pub without_rows : List Row → ℕ → ℕ → List Row
 without_rows rows map link = filter (λ row. not (is_on map link row)) rows

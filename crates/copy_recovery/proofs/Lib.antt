@@ -1,1 +1,2 @@
+pub mod OldMarks
 pub mod Pages

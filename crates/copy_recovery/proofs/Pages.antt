@@ -10,7 +10,7 @@ use Rattle.server_store.specs.Holdings.{Holdings}
 use Rattle.kept_chains.specs.Marking.{IsCommit}
 use Rattle.pair_memory.specs.declared.job_result.JobResult.{JobResult as Left}
 use Rattle.pair_memory.specs.declared.error.WorkError.{WorkError}
-use Rattle.pair_memory.specs.declared.error.WorkError.TheVariants.{Failed, JournalFull, NoMemory, Exhausted}
+use Rattle.pair_memory.specs.declared.error.WorkError.TheVariants.{Failed, NoRoom, NoMemory, Exhausted}
 use Rattle.pair_memory.specs.JobResult.{HoldsAt, IsDone, held}
 use Rattle.pair_memory.specs.Refusals.{work_error}
 use Rattle.pair_memory.specs.PairMemory.{PairMemory}
@@ -21,28 +21,28 @@ err_is a b is = cc
 memory_is : (e : StoreError) → IsMarkError e → work_error e ≡ NoMemory → e ≡ store.NoMemory
 memory_is store.Failed may is = absurd (cc)
 memory_is store.NoSpace may is = absurd may
-memory_is store.JournalFull may is = absurd (cc)
+memory_is store.MarksFull may is = absurd (cc)
 memory_is (store.BadRecord index) may is = absurd may
 memory_is store.NoMemory may is = refl
 
-full_is : (e : StoreError) → IsMarkError e → work_error e ≡ JournalFull → e ≡ store.JournalFull
+full_is : (e : StoreError) → IsMarkError e → work_error e ≡ NoRoom → e ≡ store.MarksFull
 full_is store.Failed may is = absurd (cc)
 full_is store.NoSpace may is = absurd may
-full_is store.JournalFull may is = refl
+full_is store.MarksFull may is = refl
 full_is (store.BadRecord index) may is = absurd may
 full_is store.NoMemory may is = absurd (cc)
 
 failed_is : (e : StoreError) → IsMarkError e → work_error e ≡ Failed → e ≡ store.Failed
 failed_is store.Failed may is = refl
 failed_is store.NoSpace may is = absurd may
-failed_is store.JournalFull may is = absurd (cc)
+failed_is store.MarksFull may is = absurd (cc)
 failed_is (store.BadRecord index) may is = absurd may
 failed_is store.NoMemory may is = absurd (cc)
 
 spent_not : (e : StoreError) → ¬ (work_error e ≡ Exhausted)
 spent_not store.Failed = λ no. absurd (cc)
 spent_not store.NoSpace = λ no. absurd (cc)
-spent_not store.JournalFull = λ no. absurd (cc)
+spent_not store.MarksFull = λ no. absurd (cc)
 spent_not (store.BadRecord index) = λ no. absurd (cc)
 spent_not store.NoMemory = λ no. absurd (cc)
 
@@ -60,8 +60,9 @@ refused_done {D = D} device here old new before after e rule same commit = recor
       (let kept = commit.memory (ap Err (memory_is e commit.errors (err_is (work_error e) NoMemory is))) in
       (same, kept ∙ ap (λ (s : Holdings D). record before { disk = s.disk }) (sym kept)));
   kept = commit.kept;
+  stays = commit.stays;
   full = λ is.
-      (let full = commit.full (ap Err (full_is e commit.errors (err_is (work_error e) JournalFull is))) in
+      (let full = commit.full (ap Err (full_is e commit.errors (err_is (work_error e) NoRoom is))) in
       record { count = full.count; over = full.over; same = (same, full.same) });
   spent = λ is. absurd (spent_not e (err_is (work_error e) Exhausted is));
   cause = record {

@@ -1,6 +1,7 @@
-//! What a job for a link does: the next page, the next copy, or the next old mark.
+//! What a job for a link does: the next page, the next copy, or old marks.
 
-ghost use Rattle.std.specs.Prelude.{◌≡◌, ◌<◌, filter, map, Some, Err, IfOk};
+ghost use Rattle.std.specs.Prelude.{◌≡◌, ◌<◌, ◌≤◌, filter, length, map, Err, IfOk};
+ghost use Rattle.busy_marks.specs.declared.marks.MarkKind.TheVariants as mark;
 ghost use Rattle.spec_rules.specs.Copies as copies;
 ghost use Rattle.spec_rules.specs.World.{greatest_u64};
 ghost use Rattle.spec_rules.specs.State.{id_of, other_in};
@@ -8,15 +9,19 @@ ghost use Rattle.spec_rules.specs.declared.job.Job.TheVariants as job;
 ghost use Rattle.pair_memory.specs.declared.error.WorkError.TheVariants as error;
 ghost use Rattle.pair_memory.specs.PairMemory.{own_of, HasTicketsAt};
 ghost use Rattle.pair_memory.specs.JobResult.{IsDone, IsSaid, held};
+ghost use Rattle.copy_recovery.specs.Tidying.{takes_all};
 
 use crate::page::page_wanted;
-use copy_transfer::{begin_copy, cell_at, followed, idle_mark, next_copy, other_in};
+use busy_marks::MarkKind;
+use copy_transfer::{
+    UNMARKS_LIMIT, begin_copy, cell_at, followed, idle_marks, next_copy, next_idle, other_in,
+};
 use global_state::{LinkRow, LinkState};
-use kept_chains::{mark_left, unmark};
+use kept_chains::unmark_all;
 use pair_memory::{
     FollowUp, JobContext, JobResult, PairMemory, WorkError, link_id, say_to, silent,
 };
-use petal_base::{BlockNo, NoMemory, ServerId};
+use petal_base::{Cell, NoMemory, ServerId};
 use petal_disk::Disk;
 use petal_msg::{LinkId, NextCopy};
 use server_store::Store;
@@ -67,29 +72,45 @@ fn catch_up<D: Disk>(
     }
 }
 
-/// The first mark of the block is taken away.
-fn take_mark<D: Disk>(
+/// The marks of this kind are taken away from these cells together, and the link goes on.
+fn take_all<D: Disk>(
     here: &JobContext,
     side: &PairMemory,
     store: &mut Store<D>,
     row: &LinkRow,
-    block: BlockNo,
+    kind: MarkKind,
+    cells: &[Cell],
 ) -> Result<JobResult, WorkError>
-    requires { HasTicketsAt side.now store.old }
+    requires tickets { HasTicketsAt side.now store.old }
+    requires few { length cells.now ≤ copies.unmarks_limit }
     ensures { IsDone D.Disk here.now (held side.now store.old) (held side.now store.new) result
-        (copies.clears_old_marks (own_of side.now store.old) row.now (Some block)) }
+        (takes_all (own_of side.now store.old) row.now kind cells.now) }
 {
-    let cell = cell_at(row, block);
-    match mark_left(store, cell) {
-        None => silent(here, side, store),
-        Some(kind) => {
-            unmark(store, kind, cell)?;
-            Ok(followed(here, Some(FollowUp::Repair(link_id(row)))))
-        }
-    }
+    unmark_all(store, kind, cells)?;
+    Ok(followed(here, Some(FollowUp::Repair(link_id(row)))))
 }
 
-/// In Both a mark that a write or an earlier life left is taken away.
+/// The marks of this kind are taken away from these cells together; where there is no cell nothing is done.
+fn take_marks<D: Disk>(
+    here: &JobContext,
+    side: &PairMemory,
+    store: &mut Store<D>,
+    row: &LinkRow,
+    kind: MarkKind,
+    cells: &[Cell],
+) -> Result<JobResult, WorkError>
+    requires tickets { HasTicketsAt side.now store.old }
+    requires few { length cells.now ≤ copies.unmarks_limit }
+    ensures { IsDone D.Disk here.now (held side.now store.old) (held side.now store.new) result
+        (copies.takes_marks (own_of side.now store.old) row.now kind cells.now) }
+{
+    if cells.is_empty() {
+        return silent(here, side, store);
+    }
+    take_all(here, side, store, row, kind, cells)
+}
+
+/// In Both marks that writes or an earlier life left are taken away: the busy ones first.
 fn clear_old_marks<D: Disk>(
     here: &JobContext,
     side: &PairMemory,
@@ -98,12 +119,16 @@ fn clear_old_marks<D: Disk>(
 ) -> Result<JobResult, WorkError>
     requires { HasTicketsAt side.now store.old }
     ensures { IsDone D.Disk here.now (held side.now store.old) (held side.now store.new) result
-        (copies.clears_old_marks (own_of side.now store.old) row.now (copies.idle_mark here.now.state row.now (own_of side.now store.old))) }
+        (copies.clears_old_marks here.now.state (own_of side.now store.old) row.now
+        (copies.idle_cells here.now.state row.now (own_of side.now store.old) mark.Busy)) }
 {
-    match idle_mark(here, side, store, row) {
-        None => silent(here, side, store),
-        Some(block) => take_mark(here, side, store, row, block),
+    let mut cells = [cell_at(row, 0); UNMARKS_LIMIT];
+    let busy = idle_marks(here, side, store, row, MarkKind::Busy, &mut cells);
+    if busy == 0 {
+        let stale = idle_marks(here, side, store, row, MarkKind::Stale, &mut cells);
+        return take_marks(here, side, store, row, MarkKind::Stale, &cells[..stale]);
     }
+    take_marks(here, side, store, row, MarkKind::Busy, &cells[..busy])
 }
 
 fn repair_row<D: Disk>(
@@ -163,7 +188,10 @@ fn waits_for_job<D: Disk>(
     ensures { result ≡ copies.waits_for_job here.now (own_of side.now store.now) row.now row.now.state }
 {
     match row.state {
-        LinkState::Both => idle_mark(here, side, store, row).is_some(),
+        LinkState::Both => {
+            next_idle(here, side, store, row, MarkKind::Busy, None).is_some()
+                || next_idle(here, side, store, row, MarkKind::Stale, None).is_some()
+        }
         LinkState::Only { .. } => {
             other_in(here, row).is_some() && is_block(next_copy(here, side, store, row))
         }

@@ -170,8 +170,8 @@ fn hear_page<D: Disk>(
 /// The holder makes the mark that a page tells its own; with the page that has none the pages are done.
 ///
 /// # Errors
-/// `NoMemory`, and then nothing changed; `Failed` where the device failed, and `JournalFull` only where the store's journal had
-/// all its records: the entries are as they were, and the server is to be stopped.
+/// `NoMemory`, and then nothing changed; `Failed` where the device failed, and `NoRoom` only where marks and rows of the store
+/// were as many as there may be: the entries are as they were, and the server is to be stopped.
 #[tactic(auto, unfolding(spec_rules::specs::Copies::on_hello))]
 pub fn on_hello<D: Disk>(
     here: &JobContext,

@@ -97,8 +97,8 @@ fn trim<D: Disk>(
 /// The last copy of the cell to this server does what is next here, with at most one commit to the store.
 ///
 /// # Errors
-/// `NoMemory`, and then nothing changed; `Failed` where the device failed, and `JournalFull` only where the store's journal had
-/// all its records: the entries are as they were, and the server is to be stopped.
+/// `NoMemory`, and then nothing changed; `Failed` where the device failed, and `NoRoom` only where marks and rows of the store
+/// were as many as there may be: the entries are as they were, and the server is to be stopped.
 #[tactic(auto, unfolding(spec_rules::specs::Copies::trims_on))]
 pub fn trim_on<D: Disk>(
     here: &JobContext,
@@ -134,7 +134,7 @@ fn remember<D: Disk>(
     Ok(done)
 }
 
-/// A copy that is new here is remembered, and an entry is dropped. Where the journal is full nothing changes.
+/// A copy that is new here is remembered, and an entry is dropped.
 fn remember_and_drop<D: Disk>(
     here: &JobContext,
     side: &mut PairMemory,
@@ -148,9 +148,6 @@ fn remember_and_drop<D: Disk>(
     ensures { IsDone D.Disk here.now (held side.old store.old) (held side.new store.new) result
         (dropped (with_last_copy (own_of side.old store.old) cell last) cell epoch) }
 {
-    if store.is_full() {
-        return Err(WorkError::JournalFull);
-    }
     side.copies.set_last_copy(cell, last)?;
     match drop_entry(store, key_at(cell, epoch)) {
         Ok(()) => Ok(followed(here, Some(FollowUp::Stage(cell)))),

@@ -17,8 +17,8 @@ use server_store::Store;
 /// The copy that is under way on the cell does its next stage, with at most one commit to the store.
 ///
 /// # Errors
-/// `NoMemory`, and then nothing changed; `Failed` where the device failed, and `JournalFull` only where the store's journal had
-/// all its records: the entries are as they were, and the server is to be stopped.
+/// `NoMemory`, and then nothing changed; `Failed` where the device failed, and `NoRoom` only where marks and rows of the store
+/// were as many as there may be: the entries are as they were, and the server is to be stopped.
 #[tactic(auto, unfolding(spec_rules::specs::Copies::copies_on))]
 pub fn copy_on<D: Disk>(
     here: &JobContext,

@@ -15,5 +15,7 @@ pub use begin::begin_copy;
 pub use copy::{copy_stage, sync_body, trim_body};
 pub use follow::{on_trim, trim_on};
 pub use holder::{copy_on, on_sync_full, on_synced, on_trimmed};
-pub use link_blocks::{cell_at, followed, idle_mark, next_copy, other_in, other_on};
+pub use link_blocks::{
+    UNMARKS_LIMIT, cell_at, followed, idle_marks, next_copy, next_idle, other_in, other_on,
+};
 pub use sync::{CopiedEntry, on_sync};

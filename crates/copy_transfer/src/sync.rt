@@ -11,12 +11,13 @@ ghost use Rattle.spec_rules.specs.Store.{cell_cmp, free_of};
 ghost use Rattle.kept_chains.specs.Kept.{store_of};
 ghost use Rattle.pair_memory.specs.PairMemory.{own_of, HasTicketsAt};
 ghost use Rattle.pair_memory.specs.JobResult.{IsDone, IsSaid, held};
-ghost use Rattle.copy_transfer.specs.Entries.{entry_of, one_more, put_at};
+ghost use Rattle.copy_transfer.specs.Entries.{counted, entry_of, put_as, put_at};
 
+use kept_chains::has_stored;
 use link_blocks::holder_on;
 use pair_memory::{JobContext, JobResult, PairMemory, WorkError, only, put_new, say_to, silent};
 use petal_base::{Cell, Key, NoMemory, Op, ServerId, SharedBlock, Version};
-use petal_disk::Disk;
+use petal_disk::{DeviceError, Disk};
 use petal_msg::{Body, LastCopy};
 use server_store::Store;
 
@@ -75,8 +76,8 @@ fn put_entry<D: Disk>(
 ) -> Result<JobResult, WorkError>
     requires tickets { HasTicketsAt side.old store.old }
     requires there { IsSome (at cell_cmp side.old.copies.last (cell_of entry.now.key)) }
-    ensures { (last : Last) → next ≡ one_more last → IsDone D.Disk here.now (held side.old store.old) (held side.new store.new) result
-        (copies.puts_entry (own_of side.old store.old) (entry_of entry.now) last holder (nat_lt 0 (free_of (store_of store.old)))) }
+    ensures { IsDone D.Disk here.now (held side.old store.old) (held side.new store.new) result
+        (put_as (own_of side.old store.old) (entry_of entry.now) next holder (nat_lt 0 (free_of (store_of store.old)))) }
 {
     let cell = entry.key.cell();
     let body = Body::Synced {
@@ -91,6 +92,47 @@ fn put_entry<D: Disk>(
     }
     let body = Body::SyncFull { op: entry.op, cell };
     say_to(here, side, store, Some(holder), body)
+}
+
+/// The entry is there already: the copy is as far as this.
+fn count_entry<D: Disk>(
+    here: &JobContext,
+    side: &mut PairMemory,
+    store: &Store<D>,
+    entry: &CopiedEntry,
+    holder: ServerId,
+    next: LastCopy,
+) -> Result<JobResult, WorkError>
+    requires tickets { HasTicketsAt side.old store.now }
+    requires there { IsSome (at cell_cmp side.old.copies.last (cell_of entry.now.key)) }
+    ensures { IsSaid here.now side.old side.new store.now store.now result
+        (counted (own_of side.old store.now) (entry_of entry.now) next holder) }
+{
+    let done = say_synced(here, side, store, entry, holder)?;
+    side.copies.replace_last_copy(entry.key.cell(), next);
+    Ok(done)
+}
+
+/// The entry is put, unless it is there already: then it takes no slot.
+fn take_entry<D: Disk>(
+    here: &JobContext,
+    side: &mut PairMemory,
+    store: &mut Store<D>,
+    entry: &CopiedEntry,
+    holder: ServerId,
+    next: LastCopy,
+) -> Result<JobResult, WorkError>
+    requires tickets { HasTicketsAt side.old store.old }
+    requires there { IsSome (at cell_cmp side.old.copies.last (cell_of entry.now.key)) }
+    ensures { IsDone D.Disk here.now (held side.old store.old) (held side.new store.new) result
+        (put_as (own_of side.old store.old) (entry_of entry.now) next holder (copies.has_room (store_of store.old) (entry_of entry.now))) }
+{
+    match has_stored(here.alloc(), store, entry.key, entry.version, entry.bytes) {
+        Ok(true) => count_entry(here, side, store, entry, holder, next),
+        Ok(false) => put_entry(here, side, store, entry, holder, next),
+        Err(DeviceError::Failed) => Err(WorkError::Failed),
+        Err(DeviceError::NoMemory) => Err(WorkError::NoMemory),
+    }
 }
 
 /// The next entry is put, and one that is put already is answered again.
@@ -115,7 +157,7 @@ fn hear_entry<D: Disk>(
         return silent(here, side, store);
     }
     match next_copy(side, entry.key.cell(), entry.index)? {
-        Some(next) => put_entry(here, side, store, entry, holder, next),
+        Some(next) => take_entry(here, side, store, entry, holder, next),
         None => silent(here, side, store),
     }
 }
@@ -140,7 +182,7 @@ fn last_place(side: &PairMemory, cell: Cell) -> Option<(Op, u64)>
     }
 }
 
-/// An entry of the copy that trimmed the cell last is put as the holder has it, in a free slot.
+/// An entry of the copy that trimmed the cell last is put as the holder has it, in a free slot. One that is there already needs none.
 ///
 /// # Errors
 /// As of [`trim_on`](crate::follow::trim_on).

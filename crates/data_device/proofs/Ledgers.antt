@@ -134,7 +134,7 @@ holders-slot_of (x ∷ xs) key slot is = elim (cases_Bool (same_key x.key key)) 
   | inr same ↦ let more : slot_of xs key ≡ Some slot = rw same at is in omega (arith, holders-slot_of xs key slot more)
 ]
 
-holders-without_key : (slot : ℕ) (es : List Entry) (key : Key) → holders slot (without_key es key) + went slot (slot_of es key) ≡ holders slot es
+pub holders-without_key : (slot : ℕ) (es : List Entry) (key : Key) → holders slot (without_key es key) + went slot (slot_of es key) ≡ holders slot es
 holders-without_key slot [] key = refl
 holders-without_key slot (x ∷ xs) key = elim (cases_Bool (same_key x.key key)) [
   | inl same ↦ rw same (omega arith)
@@ -155,7 +155,7 @@ none-before x xs key before same order =
     let next : key_below key x.key ≡ true = beyond x.key key before same in
     slot-above (x ∷ xs) key (next, further-above xs key x.key next order.0)
 
-holders-placed : (slot : ℕ) (es : List Entry) (e : Entry) → IsInOrder key_of es
+pub holders-placed : (slot : ℕ) (es : List Entry) (e : Entry) → IsInOrder key_of es
     → holders slot (placed key_of es e) + went slot (slot_of es e.key) ≡ holders slot es + as_count (e.slot == slot)
 holders-placed slot [] e order = omega arith
 holders-placed slot (x ∷ xs) e order = elim (cases_Bool (key_below x.key e.key)) [
@@ -362,7 +362,7 @@ is_not-in_use (true ∷ us) zero lt none = absurd (omega arith)
 is_not-in_use (false ∷ us) zero lt none = refl
 is_not-in_use (u ∷ us) (suc slot) lt none = is_not-in_use us slot (omega arith) none
 
-no-holder : (es : List Entry) (slot : ℕ) → All (λ e. e.slot ≢ slot) es → holders slot es ≡ 0
+pub no-holder : (es : List Entry) (slot : ℕ) → All (λ e. e.slot ≢ slot) es → holders slot es ≡ 0
 no-holder [] slot apart = refl
 no-holder (e ∷ es) slot apart =
     let other : e.slot ≢ slot = apart 0 e (omega arith) in

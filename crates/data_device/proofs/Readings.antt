@@ -1,21 +1,29 @@
 -- What is read of one body more.
 use Rattle.std.proofs.Common.{◌≡◌, ℕ, zero, suc, ◌+◌, ◌<◌, Bool, List, [], ◌∷◌, ◌++◌, length, take, drop, fold, get_or, map, refl, sym, ap, subst, ◌∙◌, arith}
-use Rattle.std.proofs.lemmas.List.{length-map}
+use Rattle.std.proofs.lemmas.List.{length-map, map-append}
+use Rattle.std.proofs.lemmas.List.Sums.{fold-append}
+use Rattle.data_device.proofs.RecordLists.{fit_append, spelled_append}
 use Rattle.data_device.specs.Spelling.{spelling, HasSpelling}
 use Rattle.data_device.specs.declared.record.StoreRecord.{StoreRecord}
 use Rattle.data_device.specs.declared.replay.Replay.{Replay}
 use Rattle.data_device.specs.Device.{bodies_of, AreSpelled}
 use Rattle.data_device.specs.Kept.{Kept, Fits, AllFit, kept_of, kept_after, formatted}
 use Rattle.data_device.specs.Reading.{kept_by, Reads, IsRead, IsBad}
-use Rattle.data_device.proofs.Devices.{bodies_one_more, spelled_more, fit_more}
 
 -- What one record more keeps.
 
+pub bodies_one_more : (records : List StoreRecord) (entry : StoreRecord) → bodies_of (records ++ entry ∷ []) ≡ bodies_of records ++ spelling entry ∷ []
+bodies_one_more records entry = map-append spelling records (entry ∷ [])
+
+pub spelled_more : (records : List StoreRecord) (entry : StoreRecord) → AreSpelled records → HasSpelling entry → AreSpelled (records ++ entry ∷ [])
+spelled_more records entry h fits = spelled_append records (entry ∷ []) h (fits, tt)
+
+pub fit_more : (slots : ℕ) (kept : Kept) (records : List StoreRecord) (entry : StoreRecord) → AllFit slots kept records
+    → Fits slots (fold kept_after kept records) entry → AllFit slots kept (records ++ entry ∷ [])
+fit_more slots kept records entry h fits = fit_append slots kept records (entry ∷ []) h (fits, tt)
+
 pub kept_more : (fresh : Bool) (records : List StoreRecord) (r : StoreRecord) → kept_of fresh (records ++ r ∷ []) ≡ kept_after (kept_of fresh records) r
-kept_more fresh records r = more (formatted fresh) records where
-  more : (kept : Kept) (rs : List StoreRecord) → fold kept_after kept (rs ++ r ∷ []) ≡ kept_after (fold kept_after kept rs) r
-  more kept [] = refl
-  more kept (s ∷ rs) = more (kept_after kept s) rs
+kept_more fresh records r = fold-append kept_after (formatted fresh) records (r ∷ [])
 
 take_suc : {X : Type 0} (ys : List X) (k : ℕ) (d : X) → k < length ys → take (suc k) ys ≡ take k ys ++ get_or ys k d ∷ []
 take_suc [] k d h = absurd (omega arith)

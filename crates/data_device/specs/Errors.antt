@@ -3,19 +3,19 @@ use Rattle.std.specs.Prelude.{◌≤◌, ◌<◌, ℕ, ⊤, Result, IsErrOf}
 use Rattle.block_journal.specs.declared.error.JournalError.{JournalError}
 use Rattle.block_journal.specs.declared.error.JournalError.TheVariants as journal
 use Rattle.data_device.specs.declared.error.StoreError.{StoreError}
-use Rattle.data_device.specs.declared.error.StoreError.TheVariants.{Failed, NoSpace, JournalFull, BadRecord, NoMemory}
+use Rattle.data_device.specs.declared.error.StoreError.TheVariants.{Failed, NoSpace, MarksFull, BadRecord, NoMemory}
 
--- what a journal's refusal means for the store
+-- what a journal's refusal means for the store, which asks for no more room than there is
 abbrev pub of_journal : JournalError → StoreError
 of_journal journal.Failed = Failed
-of_journal journal.Full = JournalFull
+of_journal journal.Full = Failed
 of_journal journal.NoMemory = NoMemory
 
 -- those of formatting
 abbrev pub IsFormatError : StoreError → Type 0
 IsFormatError Failed = ⊤
 IsFormatError NoSpace = ⊥
-IsFormatError JournalFull = ⊥
+IsFormatError MarksFull = ⊥
 IsFormatError (BadRecord index) = ⊥
 IsFormatError NoMemory = ⊤
 
@@ -23,23 +23,23 @@ IsFormatError NoMemory = ⊤
 abbrev pub IsReserveError : StoreError → Type 0
 IsReserveError Failed = ⊥
 IsReserveError NoSpace = ⊤
-IsReserveError JournalFull = ⊥
+IsReserveError MarksFull = ⊥
 IsReserveError (BadRecord index) = ⊥
 IsReserveError NoMemory = ⊤
 
--- those of a commit for which memory was taken before, or that needs none
-abbrev pub IsCommitError : StoreError → Type 0
-IsCommitError Failed = ⊤
-IsCommitError NoSpace = ⊥
-IsCommitError JournalFull = ⊤
-IsCommitError (BadRecord index) = ⊥
-IsCommitError NoMemory = ⊥
+-- those of a put, for which memory was taken before
+abbrev pub IsPutError : StoreError → Type 0
+IsPutError Failed = ⊤
+IsPutError NoSpace = ⊥
+IsPutError MarksFull = ⊤
+IsPutError (BadRecord index) = ⊥
+IsPutError NoMemory = ⊥
 
 -- those of a new mark
 abbrev pub IsMarkError : StoreError → Type 0
 IsMarkError Failed = ⊤
 IsMarkError NoSpace = ⊥
-IsMarkError JournalFull = ⊤
+IsMarkError MarksFull = ⊤
 IsMarkError (BadRecord index) = ⊥
 IsMarkError NoMemory = ⊤
 

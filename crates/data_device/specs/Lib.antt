@@ -7,4 +7,5 @@ pub mod Slots
 pub mod Accounts
 pub mod Tickets
 pub mod Spelling
+pub mod Turned
 pub use Rattle.block_journal.specs.Records

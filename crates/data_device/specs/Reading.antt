@@ -1,17 +1,20 @@
 -- What is read of a journal's bodies.
-use Rattle.std.specs.Prelude.{◌≡◌, ◌⊎◌, ℕ, ◌<◌, ◌^◌, Bool, List, [], ◌∷◌, ◌++◌, length, take, slice_index_or, ⊤}
+use Rattle.std.specs.Prelude.{◌≡◌, ◌⊎◌, ℕ, ◌<◌, ◌≤◌, Bool, List, [], ◌∷◌, ◌++◌, length, take, slice_index_or, ⊤}
+use Rattle.block_journal.specs.Heads.{NoHeadCounts}
+use Rattle.petal_base.specs.Limits.{max_slots}
 use Rattle.data_device.specs.Spelling.{spelling, HasSpelling}
 use Rattle.data_device.specs.declared.record.StoreRecord.{StoreRecord}
 use Rattle.data_device.specs.declared.error.StoreError.{StoreError}
-use Rattle.data_device.specs.declared.error.StoreError.TheVariants.{Failed, NoSpace, JournalFull, BadRecord, NoMemory}
+use Rattle.data_device.specs.declared.error.StoreError.TheVariants.{Failed, NoSpace, MarksFull, BadRecord, NoMemory}
 use Rattle.data_device.specs.declared.replay.Replay.{Replay}
-use Rattle.data_device.specs.Device.{header, bodies_of, AreSpelled, StandsFor, header_bytes, JournalCounts}
+use Rattle.data_device.specs.Device.{header, bodies_of, AreSpelled, StandsFor, header_bytes, journal_base, IsJournalOf}
 use Rattle.data_device.specs.Kept.{Kept, Fits, AllFit, formatted, kept_after, kept_of}
 use Rattle.data_device.specs.Slots.{slot_start}
 
 -- what the records so far give
 abbrev pub kept_by : Replay → Kept
-kept_by replay = record { entries = replay.ledger.entries; marks = replay.marks.marks; fresh = replay.fresh }
+kept_by replay =
+    record { entries = replay.ledger.entries; marks = replay.marks.marks; rows = replay.rows.rows; fresh = replay.fresh }
 
 -- the records before are spelled, and no record that fits after them is spelled by the body of this index
 pub record IsBad (slots : ℕ) (fresh : Bool) (bodies : List (List ℕ)) (index : ℕ) : Type 0 where
@@ -25,7 +28,7 @@ pub record IsBad (slots : ℕ) (fresh : Bool) (bodies : List (List ℕ)) (index 
 abbrev pub IsReadError : StoreError → Type 0
 IsReadError Failed = ⊥
 IsReadError NoSpace = ⊥
-IsReadError JournalFull = ⊥
+IsReadError MarksFull = ⊥
 IsReadError (BadRecord index) = ⊤
 IsReadError NoMemory = ⊤
 
@@ -53,12 +56,16 @@ pub record IsRead (slots : ℕ) (fresh : Bool) (bodies : List (List ℕ)) (repla
 -- the journal's body of this index is bad
 pub record IsBadOn (file : List ℕ) (slots : ℕ) (fresh : Bool) (index : ℕ) : Type 0 where
   pub bodies : List (List ℕ)
-  pub counts : JournalCounts file bodies
+  pub list : IsJournalOf file bodies
   pub bad : IsBad slots fresh bodies index
 
 -- no header of the device says of slots that fit it
+abbrev pub HasNoHeader : List ℕ → ℕ → Type 0
+HasNoHeader file size = (slots : ℕ) (fresh : Bool) → slots ≤ max_slots → take header_bytes file ≡ header slots fresh → size < slot_start slots
+
+-- there is no such header, or neither half of the journal counts
 abbrev pub IsBlank : List ℕ → ℕ → Type 0
-IsBlank file size = (slots : ℕ) (fresh : Bool) → slots < 2 ^ 32 → take header_bytes file ≡ header slots fresh → size < slot_start slots
+IsBlank file size = HasNoHeader file size ⊎ NoHeadCounts journal_base file
 
 -- what formatting may leave: what might have been there before, a blank device, or the store without records
 abbrev pub LeftByFormat : (List ℕ → Type 0) → ℕ → ℕ → Bool → List ℕ → Type 0

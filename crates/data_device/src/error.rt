@@ -15,10 +15,11 @@ pub enum StoreError {
     /// Every slot holds the content of an entry or is promised to a ticket.
     #[error("no free slot")]
     NoSpace,
-    /// The journal has all the records that it has room for.
-    #[error("the journal is full")]
-    JournalFull,
-    /// The record of this index has an open gate and no spelling, or puts into a slot that is in use or not there.
+    /// Marks and rows are as many as there may be.
+    #[error("no room for a mark or a row")]
+    MarksFull,
+    /// The record of this index has an open gate and no spelling, puts into a slot that is in use or not there, or gives more marks
+    /// and rows than there may be.
     #[error("bad record {index}")]
     BadRecord { index: u32 },
     /// There was no memory for this call, which changed nothing.
@@ -68,7 +69,7 @@ impl From<JournalError> for StoreError {
     fn from(error: JournalError) -> StoreError {
         match error {
             JournalError::Failed => StoreError::Failed,
-            JournalError::Full => StoreError::JournalFull,
+            JournalError::Full => StoreError::Failed,
             JournalError::NoMemory => StoreError::NoMemory,
         }
     }

@@ -6,6 +6,7 @@ ghost use Rattle.data_device.specs.Device.{Logs};
 ghost use Rattle.data_device.specs.Errors.{IsFormatError, HasFault};
 ghost use Rattle.data_device.specs.Reading.{LeftByFormat};
 ghost use Rattle.data_device.specs.Slots.{data_start};
+ghost use Rattle.petal_base.specs.Limits.{max_slots};
 
 use crate::error::StoreError;
 use crate::header::Header;
@@ -20,7 +21,8 @@ pub fn write_format<D: Disk>(
     disk: &mut D,
     said: Header,
 ) -> Result<(Ledger, RecordLog), StoreError>
-    requires { data_start ≤ D.size disk.old }
+    requires room { data_start ≤ D.size disk.old }
+    requires few { said.slots ≤ max_slots }
     ensures ledger { IfOk result (λ out. out.0 ≡ record { entries = []; tickets = []; slots = said.slots }) }
     ensures log { IfOk result (λ out. (out.1.fresh ≡ said.fresh) × (out.1.records ≡ [])) }
     ensures logs { IfOk result (λ out. D.observable → Logs said.slots out.1 (D.seen disk.new) (D.may_leave disk.new)) }

@@ -72,9 +72,10 @@ impl Ledger {
         &self.slots
     }
 
-    /// How many slots there are.
+    /// How many slots there are: no fewer than entries and tickets.
     pub fn count(&self) -> u32
-        ensures { result ≡ self.now.slots }
+        ensures value { result ≡ self.now.slots }
+        ensures enough { length self.now.entries + length self.now.tickets ≤ self.now.slots }
     {
         self.slots.count()
     }
@@ -86,6 +87,13 @@ impl Ledger {
         ensures few { length self.now.entries < 2 ^ 32 }
     {
         self.slots.free()
+    }
+
+    /// How many tickets are out.
+    pub fn out(&self) -> u32
+        ensures { result ≡ length self.now.tickets }
+    {
+        self.out
     }
 
     /// Sets a free slot aside, and makes room for its entry; None, and nothing changed, exactly where no slot is free.

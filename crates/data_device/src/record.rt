@@ -6,7 +6,7 @@ mod reading;
 mod writing;
 
 use busy_marks::MarkKind;
-use petal_base::{Cell, Key, Version};
+use petal_base::{Cell, Key, MapId, Origin, Version};
 pub use reading::decode;
 pub use writing::encode;
 
@@ -17,21 +17,27 @@ pub const RECORD_BYTES: usize = 63;
 ///
 /// | offset | field |
 /// |---|---|
-/// | 0 | kind: 1 Put, 2 Drop, 3 Mark, 4 Unmark, 5 Settled |
-/// | 1 | map u32 |
-/// | 5 | block u64 |
+/// | 0 | kind: 1 Put, 2 Drop, 3 Mark, 4 Unmark, 5 Settled, 7 Forget, 8 Done; 6 is the first record of a half |
+/// | 1 | map u32 (all but Settled) |
+/// | 5 | block u64 (Put, Drop, Mark, Unmark); link u8 (Forget, Done) |
+/// | 6 | client u8 (Done) |
+/// | 7 | number of the request u32 (Done) |
 /// | 13 | epoch u32 (Put, Drop) |
 /// | 17 | version u64 (Put) |
 /// | 25 | slot u32 (Put) |
 /// | 29 | mark kind u8 (Mark, Unmark): 1 Busy, 2 Stale |
-/// | 30 | zeros; unused bytes before are zero too |
+/// | 30 | the client and 1, u8 (Put): 0 where the put is for no write of a client |
+/// | 31 | number of the request u32 (Put) |
+/// | 35 | link u8 (Put) |
+/// | 36 | zeros; unused bytes before are zero too |
 #[derive(Clone, Copy, Debug, PartialEq, Eq)]
 pub enum StoreRecord {
-    /// The key has the content of this slot, put with this version.
+    /// The key has the content of this slot, put with this version, for this write if it was for one.
     Put {
         key: Key,
         version: Version,
         slot: u32,
+        origin: Option<Origin>,
     },
     /// The key is not there any more.
     Drop {
@@ -49,4 +55,14 @@ pub enum StoreRecord {
     },
     /// The store has been filled again.
     Settled,
+    /// What was put on a link of a map is not asked any more.
+    Forget {
+        map: MapId,
+        link: u8,
+    },
+    /// This write was put.
+    Done {
+        map: MapId,
+        origin: Origin,
+    },
 }

@@ -1,12 +1,14 @@
 //! What the records of a journal give, read in order.
 
-ghost use Rattle.std.specs.Prelude.{◌≡◌, ◌<◌, ◌^◌, ◌++◌, ◌∷◌, ℕ, List, [], length, IfOk, IfErr};
+ghost use Rattle.std.specs.Prelude.{◌≡◌, ◌<◌, ◌^◌, ◌++◌, ◌∷◌, ◌+◌, ℕ, List, [], length, nat_le, OnOk, IfOk, IfErr};
 ghost use Rattle.std.specs.Bool.{OnTrue, OnFalse};
 ghost use Rattle.block_journal.specs.Records.{contents};
 ghost use Rattle.data_device.specs.Spelling.{spelling, HasSpelling};
 ghost use Rattle.data_device.specs.declared.record.StoreRecord.{StoreRecord};
 ghost use Rattle.data_device.specs.Device.{bodies_of, AreSpelled};
-ghost use Rattle.data_device.specs.Kept.{Fits, AllFit, formatted, kept_after};
+ghost use Rattle.client_rows.specs.Rows.{rows_after, with_row};
+ghost use Rattle.data_device.specs.Kept.{TakesFree, Fits, AllFit, formatted, kept_after};
+ghost use Rattle.petal_base.specs.Limits.{marks_limit};
 ghost use Rattle.data_device.specs.Reading.{kept_by, Reads, IsRead, IsBad, IsReadError};
 ghost use Rattle.data_device.specs.declared.error.StoreError.TheVariants as error;
 
@@ -15,7 +17,8 @@ use crate::header::Header;
 use crate::ledger::Ledger;
 use crate::record::{StoreRecord, decode};
 use busy_marks::Marks;
-use petal_base::{GhostList, NoMemory};
+use client_rows::Rows;
+use petal_base::{GhostList, MARKS_LIMIT, MapId, NoMemory, Origin};
 use physical_map::Entry;
 use std::alloc::Global;
 
@@ -24,6 +27,7 @@ use std::alloc::Global;
 pub struct Replay {
     pub ledger: Ledger,
     pub marks: Marks,
+    pub rows: Rows,
     pub fresh: bool,
     pub history: GhostList<StoreRecord>,
 }
@@ -37,26 +41,54 @@ fn begin(alloc: Global, said: Header) -> Result<Replay, NoMemory>
     Ok(Replay {
         ledger: Ledger::new(alloc, said.slots)?,
         marks: Marks::new(alloc),
+        rows: Rows::new(alloc),
         fresh: said.fresh,
         history: GhostList::new(),
     })
+}
+
+/// Keeps the row of a write.
+fn put_row(rows: &mut Rows, map: MapId, origin: Origin) -> Result<(), NoMemory>
+    ensures { OnOk result (rows.new.rows ≡ with_row rows.old.rows map origin) }
+{
+    rows.reserve(1)?;
+    rows.put(map, origin);
+    Ok(())
+}
+
+/// Keeps the row of the write that a put is for, if it is for one.
+fn put_row_if_any(rows: &mut Rows, map: MapId, origin: Option<Origin>) -> Result<(), NoMemory>
+    ensures { OnOk result (rows.new.rows ≡ rows_after rows.old.rows map origin) }
+{
+    match origin {
+        Some(origin) => put_row(rows, map, origin),
+        None => Ok(()),
+    }
 }
 
 /// Does what a record says; false where it puts into a slot that is in use or not there.
 fn apply(replay: &mut Replay, entry: &StoreRecord) -> Result<bool, NoMemory>
     requires { replay.old.ledger.tickets ≡ [] }
     ensures kept { IfOk result (λ done. OnTrue done (kept_by replay.new ≡ kept_after (kept_by replay.old) entry.now)) }
-    ensures fits { IfOk result (λ done. OnTrue done (Fits replay.old.ledger.slots (kept_by replay.old) entry.now)) }
-    ensures refused { IfOk result (λ done. OnFalse done (¬ Fits replay.old.ledger.slots (kept_by replay.old) entry.now)) }
+    ensures free { IfOk result (λ done. OnTrue done (TakesFree replay.old.ledger.slots (kept_by replay.old) entry.now)) }
+    ensures refused { IfOk result (λ done. OnFalse done (¬ TakesFree replay.old.ledger.slots (kept_by replay.old) entry.now)) }
     ensures slots { IfOk result (λ done. OnTrue done ((replay.new.ledger.slots ≡ replay.old.ledger.slots) × (replay.new.ledger.tickets ≡ []))) }
     ensures history { replay.new.history ≡ replay.old.history }
 {
     match entry {
-        StoreRecord::Put { key, version, slot } => replay.ledger.replay(Entry {
-            key: *key,
-            slot: *slot,
-            version: *version,
-        }),
+        StoreRecord::Put {
+            key,
+            version,
+            slot,
+            origin,
+        } => {
+            put_row_if_any(&mut replay.rows, key.map, *origin)?;
+            replay.ledger.replay(Entry {
+                key: *key,
+                slot: *slot,
+                version: *version,
+            })
+        }
         StoreRecord::Drop { key } => {
             replay.ledger.drop_key(*key);
             Ok(true)
@@ -73,7 +105,24 @@ fn apply(replay: &mut Replay, entry: &StoreRecord) -> Result<bool, NoMemory>
             replay.fresh = false;
             Ok(true)
         }
+        StoreRecord::Forget { map, link } => {
+            replay.rows.drop_link(*map, *link);
+            Ok(true)
+        }
+        StoreRecord::Done { map, origin } => {
+            put_row(&mut replay.rows, *map, *origin)?;
+            Ok(true)
+        }
     }
+}
+
+/// Whether marks and rows are no more than there may be.
+fn is_within(replay: &Replay) -> bool
+    ensures { result ≡ nat_le (length replay.now.marks.marks + length replay.now.rows.rows) marks_limit }
+{
+    let marks = replay.marks.marks().len();
+    let room = MARKS_LIMIT as usize;
+    marks <= room && replay.rows.rows().len() <= room - marks
 }
 
 /// Reads the next body; false where it spells no record that fits.
@@ -86,7 +135,7 @@ fn step(replay: &mut Replay, body: &[u8]) -> Result<bool, NoMemory>
     let Some(entry) = decode(body) else {
         return Ok(false);
     };
-    if !apply(replay, &entry)? {
+    if !apply(replay, &entry)? || !is_within(replay) {
         return Ok(false);
     }
     replay.history = replay.history.with(&entry);
@@ -96,7 +145,8 @@ fn step(replay: &mut Replay, body: &[u8]) -> Result<bool, NoMemory>
 /// Reads the records of the bodies, in order.
 ///
 /// # Errors
-/// `BadRecord` at the first body that spells no record, or a put into a slot that is in use or not there; `NoMemory`.
+/// `BadRecord` at the first body that spells no record, or a put into a slot that is in use or not there, or gives more marks and rows
+/// than there may be; `NoMemory`.
 pub fn read_records(alloc: Global, bodies: &[Vec<u8>], said: Header) -> Result<Replay, StoreError>
     requires { length bodies.now < 2 ^ 32 }
     ensures read { IfOk result (λ r. IsRead said.slots said.fresh (contents bodies.now) r) }

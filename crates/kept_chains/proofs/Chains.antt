@@ -1,5 +1,5 @@
 -- Chains after puts.
-use Rattle.std.proofs.Common.{◌≡◌, ◌≢◌, ◌⊎◌, inl, inr, ℕ, true, false, List, [], ◌∷◌, Option, refl, sym, subst, ap, ◌∙◌, arith}
+use Rattle.std.proofs.Common.{◌≡◌, ◌≢◌, ◌⊎◌, inl, inr, ℕ, true, false, List, [], ◌∷◌, Option, Some, None, refl, sym, subst, ap, ◌∙◌, arith}
 use Rattle.std.specs.Prelude.{unwrap_or}
 use Rattle.std.proofs.lemmas.Bool.{cases_Bool, cases_eq}
 use Rattle.std.proofs.lemmas.Bool.Decides.{nat_tests}
@@ -9,13 +9,13 @@ use Rattle.std.specs.Cmp.{nat_cmp_total, ranked}
 use Rattle.petal_base.specs.declared.cell.Cell.{Cell}
 use Rattle.petal_base.specs.declared.cell.Key.{Key}
 use Rattle.petal_base.specs.Cells.{cell_of}
-use Rattle.petal_table.specs.Table.{Table, put}
+use Rattle.petal_table.specs.Table.{Table, at, put}
 use Rattle.petal_table.proofs.Rows.{at-empty}
 use Rattle.spec_rules.specs.Store.{Chain, Stored, cell_cmp, chain_in, chains_with}
 use Rattle.spec_rules.proofs.CellTables.{cell_cmp_total, cell_cmp_same, cell_same, cell_apart}
 use Rattle.physical_map.specs.Keys.{key_below, same_key, placed}
 use Rattle.kept_chains.specs.Chains.{chains_by}
-use Rattle.kept_chains.proofs.Puts.{IsSorted, sorted_put, put_over, put_swap}
+use Rattle.kept_chains.proofs.Puts.{IsSorted, sorted_put, put_over, put_stays, put_swap}
 
 pub cell_cases : (a b : Cell) → (a ≡ b) ⊎ (a ≢ b)
 cell_cases a b = elim (cases_eq a.map b.map) [
@@ -96,6 +96,19 @@ swap t a b x y well differ = elim (cell_cases (cell_of a) (cell_of b)) [
       (swap_here t (cell_of a) a.epoch b.epoch x y well ne)
   | inr ne ↦ swap_apart t (cell_of a) (cell_of b) a.epoch b.epoch x y well ne
 ]
+
+-- to put what stands at a key changes nothing
+pub put_again : (t : Table Cell Chain) (k : Key) (x : Stored) → IsWell t → at nat_cmp (chain_in t (cell_of k)) k.epoch ≡ Some x → chains_with t k x ≡ t
+put_again t k x well is = by (at cell_cmp t (cell_of k)) refl
+  where
+    by : (o : Option Chain) → at cell_cmp t (cell_of k) ≡ o → chains_with t k x ≡ t
+    by None none =
+        let nothing : None ≡ Some x = sym (ap (λ (o : Option Chain). at nat_cmp (unwrap_or o []) k.epoch) none ∙ at-empty nat_cmp k.epoch) ∙ is in
+        absurd (cc)
+    by (Some chain) there =
+        ap (put cell_cmp t (cell_of k))
+        (put_stays nat_cmp nat_cmp_total one_number (chain_in t (cell_of k)) k.epoch x (well.each (cell_of k)) is ∙ ap (λ (o : Option Chain). unwrap_or o []) there)
+        ∙ put_stays cell_cmp cell_cmp_total cell_cmp_same t (cell_of k) chain well.sorted there
 
 key_map : (a b : Key) → same_key a b ≡ true → a.map ≡ b.map
 key_map a b same = grind (arith, nat_tests)

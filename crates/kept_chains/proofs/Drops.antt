@@ -180,12 +180,12 @@ chains_dropped es k order =
 
 -- a drop of an entry, as the rules see the store
 pub dropped_is : {D : Type 0} (old new : Holdings D) (k : Key) → IsInOrder key_held old.entries → new.entries ≡ without_held old.entries k
-    → new ≡ record old { entries = new.entries; log = new.log; disk = new.disk } → length new.log.records ≡ length old.log.records + 1
-    → store_of new ≡ without_entry (store_of old) k
-dropped_is {D = D} old new k order entries rest recorded =
+    → new ≡ record old { entries = new.entries; log = new.log; disk = new.disk } → store_of new ≡ without_entry (store_of old) k
+dropped_is {D = D} old new k order entries rest =
     let slots : new.slots ≡ old.slots = ap (λ (s : Holdings D). s.slots) rest in
     let chains = ap chains_of entries ∙ chains_dropped old.entries k order in
     let tickets : length new.tickets ≡ length old.tickets = ap (λ (s : Holdings D). length s.tickets) rest in
     let marks = ap (λ (s : Holdings D). s.marks) rest in
+    let rows = ap (λ (s : Holdings D). s.rows) rest in
     let fresh = ap (λ (s : Holdings D). s.fresh) rest in
-    λ i. record { slots = slots i; chains = chains i; tickets = tickets i; marks = marks i; fresh = fresh i; records = recorded i }
+    λ i. record { slots = slots i; chains = chains i; tickets = tickets i; marks = marks i; rows = rows i; fresh = fresh i }

@@ -1,5 +1,6 @@
 -- Tables after two changes.
-use Rattle.std.proofs.Common.{◌≡◌, ◌≢◌, Bool, true, false, not, cond, T, [], ◌∷◌, Option, Some, None, refl, sym, subst, ap, ◌∙◌}
+use Rattle.std.proofs.Common.{◌≡◌, ◌≢◌, inl, inr, Bool, true, false, not, cond, T, [], ◌∷◌, Option, Some, None, refl, sym, subst, ap, ◌∙◌}
+use Rattle.std.proofs.lemmas.Bool.{cases_Bool}
 use Rattle.std.specs.Prelude.{filter}
 use Rattle.std.specs.declared.cmp.Ordering.{Ordering}
 use Rattle.std.specs.declared.cmp.Ordering.TheVariants.{Less, Equal, Greater}
@@ -109,6 +110,19 @@ module _ {K X : Type 0} (R : K → K → Ordering) where
   unfolding at
   at_is_find q [] = refl
   at_is_find q (e ∷ es) = ap (cond (is_eq (R q e.0)) (Some e.1)) (at_is_find q es)
+
+  -- to put what stands there changes nothing
+  pub put_stays : IsTotalOrder R → ((a b : K) → R a b ≡ Equal → a ≡ b) → (t : Table K X) (k : K) (x : X) → IsSorted R t → at R t k ≡ Some x
+      → put R t k x ≡ t
+  put_stays o same t k x h is =
+      rows.same_entries R o same (put R t k x) t (sorted_put o t k x h) h
+      (λ q. at_is_find q _ ∙ at-put o t k x q ∙ there q ∙ sym (at_is_find q t))
+    where
+      there : (q : K) → cond (eq_by_cmp R q k) (Some x) (at R t q) ≡ at R t q
+      there q = elim (cases_Bool (eq_by_cmp R q k)) [
+        | inl tie ↦ rw tie (sym (ap (at R t) (same q k (tied _ tie)) ∙ is))
+        | inr apart ↦ rw apart refl
+      ]
 
   swapped : (a b : Bool) (x y z : Option X) → (a ≡ true → b ≡ true → ⊥) → cond a x (cond b y z) ≡ cond b y (cond a x z)
   swapped true true x y z apart = absurd (apart refl refl)

@@ -8,7 +8,9 @@ use Rattle.std.proofs.lemmas.Option.{slice_get-map, slice_get_within}
 use Rattle.std.proofs.lemmas.List.{length-map}
 use Rattle.std.proofs.lemmas.List.Filters.{length-filter_both}
 use Rattle.std.specs.Prelude.{filter, slice_get, nat_eq}
-use Rattle.std.specs.List.{list_any}
+use Rattle.std.specs.Cmp.Lexicographic.{pointwise}
+use Rattle.std.specs.List.{find, list_any}
+use Rattle.std.specs.Option.{option_map_or}
 use Rattle.std.specs.declared.cmp.Ordering.TheVariants.{Less, Equal, Greater}
 use Rattle.std.specs.Ordering.{nat_cmp, is_eq, is_lt, match_ordering}
 use Rattle.std.specs.Cmp.{unsigned_tied}
@@ -21,7 +23,7 @@ use Rattle.petal_base.specs.declared.cell.Key.{Key}
 use Rattle.petal_base.specs.Cells.{cell_of}
 use Rattle.petal_table.specs.Table.{Table, at, put}
 use Rattle.spec_rules.specs.Copies.{least}
-use Rattle.spec_rules.specs.Store.{Chain, Stored, bytes_of, cell_cmp, chain_in, entry_at, epochs_of, or_else}
+use Rattle.spec_rules.specs.Store.{Chain, Stored, bytes_of, cell_cmp, chain_in, entry_at, epochs_of, or_else, same_stored}
 use Rattle.spec_rules.proofs.CellTables.{cell_cmp_same}
 use Rattle.physical_map.specs.declared.entry.Entry.{Entry}
 use Rattle.physical_map.specs.Entries as entries
@@ -201,32 +203,39 @@ pub slot_is : (es : List Held) (k : Key) → IsInOrder key_held es
 slot_is es k order there =
     slot_by es k ∙ ap (λ (chain : Chain). list_any (nat_eq k.epoch) (epochs_of chain)) (sym (chain_is key_held stored_of es (cell_of k) order)) ∙ there
 
-some_if : (b c : Bool) (x : Stored) (o : Option Stored) → c ≡ is_some o → (b || c) ≡ is_some (cond b (Some x) o)
-some_if true c x o is = refl
-some_if false c x o is = is
-
--- whether a chain has an epoch
-at_epochs : (chain : Chain) (epoch : ℕ) → list_any (nat_eq epoch) (epochs_of chain) ≡ is_some (at nat_cmp chain epoch)
+-- the first entry of an epoch is the one of its chain
+found_held : (es : List Held) (cell : Cell) (epoch : ℕ)
+    → option_map (λ (e : Entry). e.version) (find (λ (e : Entry). nat_eq epoch e.key.epoch) (chain_of cell (listed es)))
+    ≡ option_map (λ (x : Stored). x.version) (at nat_cmp (chain_held cell es) epoch)
 unfolding at
-at_epochs [] epoch = refl
-at_epochs (row ∷ rows) epoch =
-    let tie : is_eq (nat_cmp epoch row.0) ≡ nat_eq epoch row.0 = unsigned_tied epoch row.0 in
-    ap (λ b. b || list_any (nat_eq epoch) (epochs_of rows)) (sym tie)
-    ∙ some_if (is_eq (nat_cmp epoch row.0)) (list_any (nat_eq epoch) (epochs_of rows)) row.1 (at nat_cmp rows epoch) (at_epochs rows epoch)
+found_held [] cell epoch = refl
+found_held (e ∷ es) cell epoch =
+    let rest = found_held es cell epoch in
+    let tie : is_eq (nat_cmp epoch e.entry.key.epoch) ≡ nat_eq epoch e.entry.key.epoch = unsigned_tied epoch e.entry.key.epoch in
+    elim (cases_Bool (in_cell cell e.entry.key)) [
+      | inl own ↦ elim (cases_Bool (nat_eq epoch e.entry.key.epoch)) [
+        | inl here ↦ rw (own, tie, here) refl
+        | inr apart ↦ rw (own, tie, apart) rest
+      ]
+      | inr own ↦ rw own rest
+    ]
 
-any_epoch : (es : List Entry) (epoch : ℕ)
-    → list_any (λ (e : Entry). nat_eq epoch e.key.epoch) es ≡ list_any (nat_eq epoch) (map (λ (e : Entry). e.key.epoch) es)
-any_epoch [] epoch = refl
-any_epoch (e ∷ es) epoch = ap (λ b. nat_eq epoch e.key.epoch || b) (any_epoch es epoch)
+-- the version of the entry that has a key
+pub version_found : (es : List Held) (k : Key) → IsInOrder key_held es
+    → option_map (λ (e : Entry). e.version) (find (λ (e : Entry). nat_eq k.epoch e.key.epoch) (chain_of (cell_of k) (listed es)))
+    ≡ option_map (λ (x : Stored). x.version) (at nat_cmp (chain_in (chains_of es) (cell_of k)) k.epoch)
+version_found es k order =
+    found_held es (cell_of k) k.epoch
+    ∙ ap (λ (chain : Chain). option_map (λ (x : Stored). x.version) (at nat_cmp chain k.epoch)) (sym (chain_is key_held stored_of es (cell_of k) order))
 
--- an entry has a key where the chain of its cell has its epoch
-pub has_is : (es : List Held) (k : Key) → IsInOrder key_held es
-    → list_any (λ (e : Entry). nat_eq k.epoch e.key.epoch) (chain_of (cell_of k) (listed es))
-    ≡ is_some (at nat_cmp (chain_in (chains_of es) (cell_of k)) k.epoch)
-has_is es k order =
-    any_epoch (chain_of (cell_of k) (listed es)) k.epoch
-    ∙ ap (list_any (nat_eq k.epoch)) (epochs_is es (cell_of k) order)
-    ∙ at_epochs (chain_in (chains_of es) (cell_of k)) k.epoch
+some_by : (version : ℕ) (o : Option Stored) → Some version ≡ option_map (λ (x : Stored). x.version) o → is_some o ≡ true
+some_by version None is = absurd (cc)
+some_by version (Some x) is = refl
+
+-- a version where an entry has a key
+pub some_version : (o : Option Stored) → is_some (option_map (λ (x : Stored). x.version) o) ≡ is_some o
+some_version None = refl
+some_version (Some x) = refl
 
 abbrev entry_in : Option Held → Option Entry
 entry_in o = option_map (λ (h : Held). h.entry) o
@@ -339,6 +348,24 @@ pub key_read : (es : List Held) (k : Key) (bytes : List ℕ) → is_some (at nat
     → Some bytes ≡ option_map (λ (x : Stored). x.bytes) (at nat_cmp (chain_in (chains_of es) (cell_of k)) k.epoch)
 key_read es k bytes some read =
     bytes_by (chain_in (chains_of es) (cell_of k)) k.epoch bytes _ ((well_by key_held stored_of es).each (cell_of k)) refl some read
+
+same_by : (o : Option Stored) (x : Stored) (version : ℕ) (bytes : List ℕ) → Some version ≡ option_map (λ (y : Stored). y.version) o
+    → version ≡ x.version → Some bytes ≡ option_map (λ (y : Stored). y.bytes) o
+    → pointwise nat_eq x.bytes bytes ≡ option_map_or (same_stored x) o false
+same_by None x version bytes is same read = absurd (cc)
+same_by (Some y) x version bytes is same read =
+    let version_is : version ≡ y.version = cc in
+    let bytes_are : bytes ≡ y.bytes = cc in
+    let tie : (x.version == y.version) ≡ true = grind (arith, nat_tests, same, version_is) in
+    rw tie (ap (pointwise nat_eq x.bytes) bytes_are)
+
+-- an entry of this version is the same where its bytes are
+pub same_read : (es : List Held) (k : Key) (x : Stored) (version : ℕ) (bytes : List ℕ)
+    → Some version ≡ option_map (λ (y : Stored). y.version) (at nat_cmp (chain_in (chains_of es) (cell_of k)) k.epoch)
+    → version ≡ x.version → bytes ≡ bytes_of (entry_at (chain_in (chains_of es) (cell_of k)) k.epoch)
+    → pointwise nat_eq x.bytes bytes ≡ option_map_or (same_stored x) (at nat_cmp (chain_in (chains_of es) (cell_of k)) k.epoch) false
+same_read es k x version bytes is same read =
+    same_by _ x version bytes is same (key_read es k bytes (some_by version _ is) read)
 
 pub key_none : (o : Option Stored) → is_some o ≡ false → None ≡ option_map (λ (x : Stored). x.bytes) o
 key_none None is = refl

@@ -14,14 +14,13 @@ stored_of held = record { version = held.entry.version; bytes = held.content }
 abbrev pub chains_of : List Held → Table Cell Chain
 chains_of entries = chains_by key_held stored_of entries
 
--- the slots, the chains, how many slots are set apart, the marks, whether it is still to be filled, and how many records its
--- journal has
+-- the slots, the chains, how many slots are set apart, the marks, the rows, and whether it is still to be filled
 abbrev pub store_of : {D : Type 0} → Holdings D → Store
 store_of store = record {
   slots = store.slots;
   chains = chains_of store.entries;
   tickets = length store.tickets;
   marks = store.marks;
+  rows = store.rows;
   fresh = store.fresh;
-  records = length store.log.records;
 }

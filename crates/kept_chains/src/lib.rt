@@ -10,8 +10,8 @@ mod walk;
 
 pub use laws::{a_put_is_an_entry_more, a_read_finds_the_chains_entry, versions_and_counts_agree};
 pub use server_store::{Store, StoreError, Ticket};
-pub use store::{drop_entry, mark, next_version, read_at, set_apart, settle, unmark};
+pub use store::{drop_entry, mark, next_version, read_at, set_apart, settle, unmark, unmark_all};
 pub use walk::{
-    Found, epochs, has_below, has_entry, mark_left, next_marked, next_stored, nth, read_key,
-    read_nth,
+    Found, epochs, has_below, has_entry, has_stored, mark_left, next_marked, next_stored, nth,
+    read_key, read_nth,
 };

@@ -1,22 +1,21 @@
 //! Calls of a store, said as the rules say them.
 
-ghost use Rattle.std.specs.Prelude.{◌≡◌, ◌+◌, ◌-◌, ◌^◌, ◌<◌, ◌++◌, ◌∷◌, [], length, nat_lt, Contains, IfOk, IfErr, IfSome, IfNone};
-ghost use Rattle.std.specs.Prelude.{OnOk, OnErr, IsErrOf, is_some, nat_eq, true};
+ghost use Rattle.std.specs.Prelude.{◌≡◌, ◌+◌, ◌-◌, ◌^◌, ◌<◌, ◌≤◌, ◌++◌, ◌∷◌, [], length, nat_lt, Contains, IfOk, IfErr, IfSome, IfNone};
+ghost use Rattle.std.specs.Prelude.{OnErr, is_some, nat_eq, true};
 ghost use Rattle.std.specs.List.{list_any};
 ghost use Rattle.petal_base.specs.Cells.{cell_of};
 ghost use Rattle.device_faults.specs.Faults.{HasCause};
 ghost use Rattle.petal_disk.specs.Keeping.{KeepsDevice};
 ghost use Rattle.spec_rules.specs.Store.{bytes_of, chain_in, entry_at, epochs_of, free_of, settled, version_of, top_of};
-ghost use Rattle.spec_rules.specs.Store.{with_mark_on, without_entry, without_mark_on};
+ghost use Rattle.spec_rules.specs.Copies.{unmarks_limit};
+ghost use Rattle.spec_rules.specs.Store.{unmark_all_on, with_mark_on, without_entry, without_mark_on};
 ghost use Rattle.physical_map.specs.Entries as map;
-ghost use Rattle.server_store.specs.Errors.{IsCommitError};
 ghost use Rattle.server_store.specs.Holdings.{listed};
 ghost use Rattle.server_store.specs.Shown.{Holds};
 ghost use Rattle.kept_chains.specs.Kept.{chains_of, store_of};
 ghost use Rattle.kept_chains.specs.Marking.{IsChange, IsCommit};
 ghost use Rattle.kept_chains.specs.Reading.{IsReadFault};
 ghost use Rattle.petal_base.specs.Block.{block_bytes};
-ghost use Rattle.petal_base.specs.Limits.{journal_records};
 
 use busy_marks::MarkKind;
 use petal_base::{BLOCK_BYTES, Block, Cell, Epoch, Key, NoMemory, SharedBlock, Version};
@@ -88,8 +87,8 @@ pub fn read_at<D: Disk>(
 /// Marks a cell. Where it has the mark nothing changes.
 ///
 /// # Errors
-/// Out of memory, before any call of the device; `JournalFull` only where the journal has all its records; `Failed`, where the
-/// device failed. The store keeps what it has.
+/// `MarksFull` only where marks and rows are as many as there may be; out of memory, before any call of the device; `Failed`, where
+/// the device failed. The store keeps what it has.
 pub fn mark<D: Disk>(store: &mut Store<D>, kind: MarkKind, cell: Cell) -> Result<(), StoreError>
     ensures { IsCommit D.Disk store.old store.new result (with_mark_on (store_of store.old) kind cell) }
 {
@@ -99,21 +98,38 @@ pub fn mark<D: Disk>(store: &mut Store<D>, kind: MarkKind, cell: Cell) -> Result
 /// Takes a cell's mark away. Where it has none nothing changes. It takes no memory.
 ///
 /// # Errors
-/// As of [`mark`], but for memory.
+/// The device failed. The store keeps what it has.
 pub fn unmark<D: Disk>(store: &mut Store<D>, kind: MarkKind, cell: Cell) -> Result<(), StoreError>
-    ensures { IsCommit D.Disk store.old store.new result (without_mark_on (store_of store.old) kind cell) }
+    ensures commit { IsCommit D.Disk store.old store.new result (without_mark_on (store_of store.old) kind cell) }
+    ensures errors { IfErr result (λ e. e ≡ StoreError.Failed) }
 {
     store.unmark(kind, cell)
+}
+
+/// Takes the marks of this kind away from the cells that have it, by one commit. It takes no memory.
+///
+/// # Errors
+/// The device failed. The store keeps what it has.
+pub fn unmark_all<D: Disk>(
+    store: &mut Store<D>,
+    kind: MarkKind,
+    cells: &[Cell],
+) -> Result<(), StoreError>
+    requires { length cells.now ≤ unmarks_limit }
+    ensures commit { IsCommit D.Disk store.old store.new result (unmark_all_on (store_of store.old) kind cells.now) }
+    ensures errors { IfErr result (λ e. e ≡ StoreError.Failed) }
+{
+    store.unmark_all(kind, cells)
 }
 
 /// Drops the entry of a key, and its slot is free. It takes no memory.
 ///
 /// # Errors
-/// `JournalFull` only where the journal has all its records; `Failed`, where the device failed. The entries stay as they were.
+/// The device failed. The entries stay as they were.
 pub fn drop_entry<D: Disk>(store: &mut Store<D>, key: Key) -> Result<(), StoreError>
     requires { list_any (nat_eq key.epoch) (epochs_of (chain_in (chains_of store.old.entries) (cell_of key))) ≡ true }
     ensures change { IsChange D.Disk store.old store.new result (without_entry (store_of store.old) key) }
-    ensures errors { IfErr result IsCommitError }
+    ensures errors { IfErr result (λ e. e ≡ StoreError.Failed) }
 {
     // What `free` promises tells the proof that the entries are in order.
     let _ = store.free();
@@ -123,11 +139,10 @@ pub fn drop_entry<D: Disk>(store: &mut Store<D>, key: Key) -> Result<(), StoreEr
 /// The store waits for nobody any more. Where it waited for nobody nothing changes. It takes no memory.
 ///
 /// # Errors
-/// `JournalFull` only where the journal has all its records; `Failed`, where the device failed. It waits as before.
+/// The device failed. It waits as before.
 pub fn settle<D: Disk>(store: &mut Store<D>) -> Result<(), StoreError>
     ensures commit { IsCommit D.Disk store.old store.new result (settled (store_of store.old)) }
-    ensures errors { IfErr result IsCommitError }
-    ensures full { IsErrOf result StoreError.JournalFull → (store.old.log.region.count ≡ journal_records) × (store.old.fresh ≡ true) }
+    ensures errors { IfErr result (λ e. e ≡ StoreError.Failed) }
 {
     store.settle_fresh()
 }

@@ -1,7 +1,7 @@
 //! The blocks of a map in order, and the entries of a block.
 
 ghost use Rattle.std.specs.Prelude.{◌≡◌, ◌<◌, ◌-◌, ◌^◌, filter, map, nat_eq, slice_get, option_map, IfOk, IfSome, is_some};
-ghost use Rattle.std.specs.List.{list_any};
+ghost use Rattle.std.specs.List.{find};
 ghost use Rattle.std.specs.Ordering.{nat_cmp};
 ghost use Rattle.petal_base.specs.Cells.{cell_of};
 ghost use Rattle.petal_table.specs.Table.{at};
@@ -44,19 +44,29 @@ pub fn next_marked<D: Disk>(store: &Store<D>, map: MapId, after: Option<BlockNo>
     store.next_mark(map, after)
 }
 
-fn has_epoch(chain: &[Entry], epoch: Epoch) -> bool
-    ensures { result ≡ list_any (λ entry. nat_eq epoch entry.key.epoch) chain.now }
+fn version_in(chain: &[Entry], epoch: Epoch) -> Option<Version>
+    ensures { result ≡ option_map (λ entry. entry.version) (find (λ entry. nat_eq epoch entry.key.epoch) chain.now) }
 {
-    chain.iter().any(|entry| epoch == entry.key.epoch)
+    match chain.iter().find(|entry| epoch == entry.key.epoch) {
+        Some(entry) => Some(entry.version),
+        None => None,
+    }
+}
+
+/// The version of the entry that has the key.
+pub fn version_at<D: Disk>(store: &Store<D>, key: Key) -> Option<Version>
+    ensures { result ≡ option_map (λ entry. entry.version) (at nat_cmp (chain_in (chains_of store.now.entries) (cell_of key)) key.epoch) }
+{
+    // What `free` promises tells the proof that the entries are in order.
+    let _ = store.free();
+    version_in(store.chain_at(key.cell()), key.epoch)
 }
 
 /// Whether an entry has the key.
 pub fn has_entry<D: Disk>(store: &Store<D>, key: Key) -> bool
     ensures { result ≡ is_some (at nat_cmp (chain_in (chains_of store.now.entries) (cell_of key)) key.epoch) }
 {
-    // What `free` promises tells the proof that the entries are in order.
-    let _ = store.free();
-    has_epoch(store.chain_at(key.cell()), key.epoch)
+    version_at(store, key).is_some()
 }
 
 /// The bytes of the entry that has the key.
@@ -81,6 +91,34 @@ pub fn read_key<D: Disk>(
         return Ok(None);
     }
     Ok(Some(read_at(alloc, store, key.cell(), key.epoch)?))
+}
+
+/// Whether an entry of this version with these bytes has the key. The block is read only where one of this version has it.
+///
+/// # Errors
+/// `Failed`, where the device failed, and out of memory. Nothing that the store has changed, and the device keeps it as before.
+pub fn has_stored<D: Disk>(
+    alloc: Global,
+    store: &mut Store<D>,
+    key: Key,
+    version: Version,
+    bytes: &SharedBlock,
+) -> Result<bool, DeviceError>
+    ensures stored { IfOk result (λ found. D.observable → found
+        ≡ rules.has_stored (store_of store.old) key (record { version = version; bytes = bytes.now })) }
+    ensures same { store.new ≡ record store.old { disk = store.new.disk } }
+    ensures device { KeepsDevice D.size D.seen D.may_leave D.moment D.left_since store.old.disk store.new.disk }
+    ensures holds { D.observable → Holds store.old (D.seen store.old.disk) (D.may_leave store.old.disk)
+        → Holds store.new (D.seen store.new.disk) (D.may_leave store.new.disk) }
+    ensures cause { IsReadFault (D.faults store.old.disk) (D.faults store.new.disk) result }
+    ensures run { D.came_to store.old.disk store.new.disk }
+{
+    match version_at(store, key) {
+        Some(found) if found == version => {
+            Ok(*bytes == read_at(alloc, store, key.cell(), key.epoch)?)
+        }
+        _ => Ok(false),
+    }
 }
 
 /// Whether the cell has an entry of an epoch not above.

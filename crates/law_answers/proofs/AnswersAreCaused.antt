@@ -182,8 +182,7 @@ module _ (setting : Setting) (last : World) (plain : HasProperTuples setting.ser
 
   answer_given : (number line : ℕ) (given told : Answer) → (let pair : Option (ℕ × Answer) = Some (line, told) in pair) ≡ Some (number, given)
       → HasCause line told → HasCause number given
-  answer_given number line given told e h =
-      subst (λ (x : ℕ × Answer). HasCause x.0 x.1) (same_some e) h
+  answer_given number line given told e h = subst (λ (x : ℕ × Answer). HasCause x.0 x.1) (same_some e) h
 
   read_cause : (c seq : ℕ) (asked : Request) (bytes : List ℕ) → is_read asked ≡ true
       → CauseOf setting last c seq asked (command_of c seq asked) (answer.Data bytes)

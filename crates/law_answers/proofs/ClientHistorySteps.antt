@@ -4,8 +4,7 @@ use Rattle.law_answers.proofs.Imports.{Goes_on, Heard, In, IsAsked, Is_told, Jud
 use Rattle.law_answers.proofs.Imports.{Step, Tick, Turned, Turning, World, ap, arith, client_sender, client_state, client_step, client_turns, false, inl, inr}
 use Rattle.law_answers.proofs.Imports.{is_ask, is_call, is_read, length, next_line, prefix_long, put_apart, put_same, reacts, refl, said, same_or_apart}
 use Rattle.law_answers.proofs.Imports.{state_after, step, subst, sym, true, true_false, turned_asks, ℕ}
-use Rattle.law_answers.proofs.ClientReadSteps.{As_before, Asks, HasWay, Is_called, Later, OnWay, Turns, Was_open, turned_answers, turned_asks_read}
-use Rattle.law_answers.proofs.ClientReadSteps.{turned_way}
+use Rattle.law_answers.proofs.ClientReadSteps.{As_before, Asks, HasWay, Is_called, Later, OnWay, Turns, Was_open, turned_answers, turned_asks_read, turned_way}
 use Rattle.law_answers.proofs.OldMapByRevision.{Stays, heard_stays, tick_stays}
 use Rattle.petal_msg.specs.declared.body.Body.TheVariants as body
 use Rattle.petal_msg.specs.declared.letter.Actor.TheVariants as actor

@@ -2,8 +2,8 @@
 use Rattle.law_answers.proofs.Imports.{if◌then◌else◌, ◌∙◌, ◌≡◌, ◌≢◌, ◌⊎◌, Acted, Answer, Asked, Blanks_it, Bool, Boot, Booted, By_verdict, By_witness}
 use Rattle.law_answers.proofs.Imports.{Command, Deed, Ending, Fails_it, Has_no_space, IsDone, IsReason, IsSeenAs, Is_settled, JobContext, Option, Request}
 use Rattle.law_answers.proofs.Imports.{Shown_by, Some, Starts_it, State, Stops_at, Stops_it, WorkEnd, World, answer_of, ap, awake, boots, by_test, command_of}
-use Rattle.law_answers.proofs.Imports.{false, inl, inr, is_overfull, is_read, is_write, names, none_some, raised, refl, refusal, same_some, stays, subst, sym}
-use Rattle.law_answers.proofs.Imports.{true, true_false, wakes, ℕ}
+use Rattle.law_answers.proofs.Imports.{false, has_full_log, inl, inr, is_read, is_write, names, none_some, raised, refl, refusal, same_some, stays, subst}
+use Rattle.law_answers.proofs.Imports.{sym, true, true_false, wakes, ℕ}
 use Rattle.law_answers.proofs.AnswersFitRequests.{is_of_entry, reason_told}
 use Rattle.law_answers.specs.FailureCauses.{IsReasonToFail, Device_failed, Journal_full}
 use Rattle.law_answers.specs.Glances.{Tells}
@@ -128,7 +128,7 @@ done_booted asked m n running before (inr is) done = inr (subst (λ r. IsDone r 
 pub boot_why : (w : World) (n : ℕ) (here : JobContext) (end : WorkEnd) → (boots here (w.servers n) end).server.life.running ≡ false
     → IsReasonToFail w n (Boot end)
 boot_why w n here work_end.Done =
-    by_test (λ (a : Acted). a.server.life.running ≡ false → IsReasonToFail w n (Boot work_end.Done)) (is_overfull (raised (w.servers n)))
+    by_test (λ (a : Acted). a.server.life.running ≡ false → IsReasonToFail w n (Boot work_end.Done)) (has_full_log (raised (w.servers n)))
     (stays (w.servers n)) (wakes here (awake (raised (w.servers n))))
     (λ full rests. Journal_full refl full) (λ room rests. true_false refl rests)
 boot_why w n here (work_end.Fault end) = λ rests. Device_failed end refl

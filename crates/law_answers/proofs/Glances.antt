@@ -7,8 +7,7 @@ use Rattle.law_answers.proofs.Imports.{MayServer, None, Option, Reaction, Reads,
 use Rattle.law_answers.proofs.Imports.{Stopped, Tick, Turned, Work, WorkEnd, World, acts, all_put, answer_of, ap, append-nil, append_assoc, arith, by_test}
 use Rattle.law_answers.proofs.Imports.{client_state, client_step, client_turns, controls, false, glanced_in, here_of, in-append, inl, inr, lines_of, names}
 use Rattle.law_answers.proofs.Imports.{next_line, none_some, operator, prefix_legal, put_apart, put_same, reacts, refl, same_numbers, same_some, server_state}
-use Rattle.law_answers.proofs.Imports.{server_step, setting_of, shown, slice_get, start, stays, step, subst, sym, true, true_false, world_after, world_more}
-use Rattle.law_answers.proofs.Imports.{ℕ}
+use Rattle.law_answers.proofs.Imports.{server_step, setting_of, shown, slice_get, start, stays, step, subst, sym, true, true_false, world_after, world_more, ℕ}
 use Rattle.law_answers.proofs.Lines.{open_last, IsOpenFor, asks_to_boot, line_of, open_for}
 use Rattle.law_answers.proofs.ClientHistorySteps.{step_seq}
 use Rattle.law_answers.proofs.AnsweredOnce.{in_answers, pair_is}
@@ -288,15 +287,12 @@ module _ (script : Script) (records : List Record) (sound : IsSound script) (ris
     server_hand n Tick who does may m e = hand_on n Tick refl may.free m e
     server_hand n (Work end) who does may m e = hand_on n (Work end) refl may.acts.free m e
     server_hand n (StopIn end) who does may m e = hand_on n (StopIn end) refl may.acts.free m e
-    server_hand n Stop who does may m e =
-        let f : Stopped ≡ Booted = ap (λ (x : ℕ × Deed). x.1) (same_some e) in absurd (cc)
-    server_hand n Blank who does may m e =
-        let f : Blanked ≡ Booted = ap (λ (x : ℕ × Deed). x.1) (same_some e) in absurd (cc)
+    server_hand n Stop who does may m e = let f : Stopped ≡ Booted = ap (λ (x : ℕ × Deed). x.1) (same_some e) in absurd (cc)
+    server_hand n Blank who does may m e = let f : Blanked ≡ Booted = ap (λ (x : ℕ × Deed). x.1) (same_some e) in absurd (cc)
     server_hand n (Boot end) who does may m e =
         subst (IsBooted (served n (Boot end))) (ap (λ (x : ℕ × Deed). x.0) (same_some e)) (booted n end who does may)
     server_hand n (Arm which plan) who does may m e = hand_left n (Arm which plan) refl refl m e
-    server_hand n (Glance line round) who does (inl may) m e =
-        none_some (ap (λ at. (glanced_in line at w.control).hand) may.once) e
+    server_hand n (Glance line round) who does (inl may) m e = none_some (ap (λ at. (glanced_in line at w.control).hand) may.once) e
     server_hand n (Glance line round) who does (inr may) m e =
         let left = settle_left line round may.counts in
         hand_left n (Glance line round) left refl m (sym (ap (λ (control : Control). control.hand) left) ∙ e)

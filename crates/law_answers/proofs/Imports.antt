@@ -18,14 +18,14 @@ pub use Rattle.law_log.proofs.Imports.{Key, Learning, Letter, Line, Log, LogDone
 pub use Rattle.law_log.proofs.Imports.{Script, Sight, Step, Stop, StopIn, Table, Tick, Work, WorkEnd, about, acts, all_put, all_put_apart, answered_where}
 pub use Rattle.law_log.proofs.Imports.{answers, asks_and_sends, at_other_rev, awake, blanked, boots, calls, cell_of, chain_in, client_sender, client_state}
 pub use Rattle.law_log.proofs.Imports.{client_step, command_of, down_posts, ended, entered, epoch_for, faults, flat_map, free_of, get_last, get_within}
-pub use Rattle.law_log.proofs.Imports.{glance_sender, glances, goes_out, goes_out_where, goes_the_old_way, hears, hears_any, hears_of, here_of, holds_link}
-pub use Rattle.law_log.proofs.Imports.{is_eq, is_from_in, is_log_job, is_logged, is_overfull, is_read, is_second, is_settled, is_witness, is_write, job_done}
-pub use Rattle.law_log.proofs.Imports.{judged, judged_by, known, lines_of, link_named, log_plain, moved_as, nat_cmp, nat_cmp_total, next_entries, next_line}
-pub use Rattle.law_log.proofs.Imports.{next_place, pending_on, post_of, proposed, put_apart, put_same, raised, reacts, readers, replies, rests, rev_of}
-pub use Rattle.law_log.proofs.Imports.{rounds, sees, sees_for, sees_from, sender, sends_or_proposes, server_state, server_step, setting_of, settles, silent}
-pub use Rattle.law_log.proofs.Imports.{stages, stamped, start, stays, stays_open, stepped, stopped, stops, subject_of, takes_all, takes_entries, takes_entry}
-pub use Rattle.law_log.proofs.Imports.{then_goes_out, tick_posts, tied_itself, to_propose, verdict_for, voter_of, wakes, wanted_by, way_now, with_sight}
-pub use Rattle.law_log.proofs.Imports.{witnessed, worked, works, world_after, wrong_rev}
+pub use Rattle.law_log.proofs.Imports.{glance_sender, glances, goes_out, goes_out_where, goes_the_old_way, has_full_log, hears, hears_any, hears_of, here_of}
+pub use Rattle.law_log.proofs.Imports.{holds_link, is_eq, is_from_in, is_log_job, is_logged, is_overfull, is_read, is_second, is_settled, is_witness}
+pub use Rattle.law_log.proofs.Imports.{is_write, job_done, judged, judged_by, known, lines_of, link_named, log_plain, moved_as, nat_cmp, nat_cmp_total}
+pub use Rattle.law_log.proofs.Imports.{next_entries, next_line, next_place, pending_on, post_of, proposed, put_apart, put_same, raised, reacts, readers}
+pub use Rattle.law_log.proofs.Imports.{replies, rests, rev_of, rounds, sees, sees_for, sees_from, sender, sends_or_proposes, server_state, server_step}
+pub use Rattle.law_log.proofs.Imports.{setting_of, settles, silent, stages, stamped, start, stays, stays_open, stepped, stopped, stops, subject_of, takes_all}
+pub use Rattle.law_log.proofs.Imports.{takes_entries, takes_entry, then_goes_out, tick_posts, tied_itself, to_propose, verdict_for, voter_of, wakes}
+pub use Rattle.law_log.proofs.Imports.{wanted_by, way_now, with_sight, witnessed, worked, works, world_after, wrong_rev}
 unfoldable pub use Rattle.law_log.proofs.Imports.{applies, does, goes_on, handles, heard, hears_log, learns, log_does, next_retired, nobody, number, on_ask}
 unfoldable pub use Rattle.law_log.proofs.Imports.{on_news, on_pair_full, on_pax, on_propose, on_read, on_replicate, on_replicated, on_reserve, on_reserved}
 unfoldable pub use Rattle.law_log.proofs.Imports.{on_write, put_at, refusal, repairs, starts, step, sweeps, ticked}
@@ -56,6 +56,7 @@ pub use Rattle.law_moves.proofs.Imports.{stage_facts, tails}
 pub use Rattle.law_answers.specs.Imports.{Event, Look, Read, accepted, asked_by, asker, look_for, old_data, operator, reads_old}
 pub use Rattle.std.proofs.Common.{take}
 pub use Rattle.std.proofs.Math.Seq.{take-append_seam}
+pub use Rattle.std.proofs.lemmas.Bool.{or_cases}
 pub use Rattle.std.proofs.lemmas.Grind.{flat_map-append}
 pub use Rattle.std.proofs.lemmas.List.{length-map}
 pub use Rattle.std.specs.List.{fold}

@@ -132,8 +132,7 @@ module _ (R S : ℕ → ℕ → Type 0) (scene : Scene R S) where
     finish_refuses pending _ _ (Had_no_slot want new full gone) how =
         now want.client want.seq (At_the_lead n want.cell want.epoch want.bytes refl refl new.lead new.wanted new.newer new.none full)
     finish_refuses pending _ _ (By_operation _ _ (Is_declined op h is reserved put) write gone) how = declined_op op h is (ap is_clients write)
-    finish_refuses pending _ _ (By_operation op ending.Written ended write gone) how =
-        absurd (let e : ending.Written ≡ ending.Full = how in cc)
+    finish_refuses pending _ _ (By_operation op ending.Written ended write gone) how = absurd (let e : ending.Written ≡ ending.Full = how in cc)
 
     ended_duty : (new : PairState) (client number : ℕ) (how : Ending) → (how ≡ ending.Full → S client number)
         → Due new (to_client client (ended number how)) (ended number how)

@@ -2,11 +2,10 @@
 -- entry that it is to move, by the new map's lead, which had none, or whose second server had none.
 use Rattle.law_answers.proofs.Imports.{[], ◌++◌, ◌∙◌, ◌∷◌, ◌≡◌, ◌⊎◌, Acted, Actor, At, Blank, Body, Bool, By_ballot, By_entry, By_job, Caught, Cell, Command}
 use Rattle.law_answers.proofs.Imports.{Copies, Did, Effect, Fails, Firm, Goes, Handled, HearsNone, In, Is_full, JobContext, JobResult, Letter, LinkRow, List}
-use Rattle.law_answers.proofs.Imports.{May, MayActor, None, OneMore, Option, PairState, Record, Rests, Run, Server, Serving, Setting, Some, State, Stays}
-use Rattle.law_answers.proofs.Imports.{Step, Wakes, Work, World, after, all_put, ap, applied, at_moment, by_run, crossed, firm_in, firm_then, follows_in}
-use Rattle.law_answers.proofs.Imports.{holds_link, inl, inr, job_keeps, last_moment, link_named, longer, moment_more, own_place, own_steady, proposed, refl}
-use Rattle.law_answers.proofs.Imports.{rests_in, server_serves, server_state, setting_in, settling, step, stepped_in, subst, sym, true, true_false, was_sent}
-use Rattle.law_answers.proofs.Imports.{ℕ}
+use Rattle.law_answers.proofs.Imports.{May, MayActor, None, OneMore, Option, PairState, Record, Rests, Run, Server, Serving, Setting, Some, State, Stays, Step}
+use Rattle.law_answers.proofs.Imports.{Wakes, Work, World, after, all_put, ap, applied, at_moment, by_run, crossed, firm_in, firm_then, follows_in, holds_link}
+use Rattle.law_answers.proofs.Imports.{inl, inr, job_keeps, last_moment, link_named, longer, moment_more, own_place, own_steady, proposed, refl, rests_in}
+use Rattle.law_answers.proofs.Imports.{server_serves, server_state, setting_in, settling, step, stepped_in, subst, sym, true, true_false, was_sent, ℕ}
 use Rattle.law_steps.specs.DidStep.{Ends}
 use Rattle.law_answers.specs.FullCauses.{By_copy, By_fill, HadNoRoom, HasFoundNone, HasJob, WasTold}
 use Rattle.law_answers.proofs.Reasons.{reason_found}

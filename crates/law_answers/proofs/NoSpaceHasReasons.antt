@@ -71,8 +71,7 @@ module _ (setting : Setting) where
   heard_full w c _ _ (Begins reacted line asked is free seq there called only) number e = none_some only.unanswered e
   heard_full w c _ _ (Reads asked bytes h is reads) number e = absurd (let g : answer.Data bytes ≡ answer.NoSpace = (pair_is e).1 in cc)
   heard_full w c _ _ (Ends asked ending.Written h is writes) number e = absurd (let g : answer.Ok ≡ answer.NoSpace = (pair_is e).1 in cc)
-  heard_full w c _ _ (Ends asked ending.Full h is writes) number e =
-      record { asked = asked; is = is; line = (pair_is e).0; heard = inl h }
+  heard_full w c _ _ (Ends asked ending.Full h is writes) number e = record { asked = asked; is = is; line = (pair_is e).0; heard = inl h }
   heard_full w c _ _ (Shown asked rev sight given h is seen) number e =
       let why = sight_spaced _ asked sight (subst (IsSeenAs _ asked sight) (pair_is e).1 seen) in
       record {

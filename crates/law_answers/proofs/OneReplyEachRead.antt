@@ -71,8 +71,7 @@ module _ (g : Grounded) (steady : IsSteady g.state) (n stamp : ℕ) where
 
   all_apart : (who : Sender) (posts : List Post) → ((post : Post) → In post posts → is_of_read post.body ≡ false) → (letter : Letter)
       → In letter (sent_by who posts) → S who posts letter
-  all_apart who posts apart letter h =
-      let s = said who stamp 0 posts letter h in Is_apart (ap is_of_read s.body ∙ apart s.post s.there)
+  all_apart who posts apart letter h = let s = said who stamp 0 posts letter h in Is_apart (ap is_of_read s.body ∙ apart s.post s.there)
 
   abbrev mine : Sender
   mine = sender (own_place setting w n)

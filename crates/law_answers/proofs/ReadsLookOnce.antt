@@ -163,8 +163,7 @@ module _ (run : Run) (rise : AreRising run.script.lines) where
 
     -- the letter is the answer's, and the record is the one that sent it
     sent_here : (x : IsMoment records) (letter : Letter) → In letter x.own.sent → accepted x.following letter ≡ Some number → AreOne x s
-    sent_here x letter i acc =
-        one_sender a.letter a.seq reply_is x s (subst (λ l. In l x.own.sent) (letter_of x letter i acc) i) w.sent
+    sent_here x letter i acc = one_sender a.letter a.seq reply_is x s (subst (λ l. In l x.own.sent) (letter_of x letter i acc) i) w.sent
 
     abbrev is_old : Bool
     is_old = reads_old setting (At s.prefix) s.own.actor
@@ -230,8 +229,7 @@ module _ (run : Run) (rise : AreRising run.script.lines) where
         by : (letter : Letter) → In letter other.own.sent
             → TellsIt setting (At other.prefix) (stepped setting (At other.prefix) other.own).world other.own.actor other.following letter l.0
             → other.prefix ≡ s.prefix
-        by letter there (By_data seq xs says new acc) =
-            (sent_here other letter there (acc ∙ ap Some (same ∙ a.number_is))).prefix_is
+        by letter there (By_data seq xs says new acc) = (sent_here other letter there (acc ∙ ap Some (same ∙ a.number_is))).prefix_is
         by letter there (By_turning seq given says is number_is) =
             true_false (search_found other letter seq given is (number_is ∙ same ∙ a.number_is)).old off
 

@@ -45,8 +45,7 @@ pub record WasCalled (records : List Record) (c number : ℕ) : Type 0 where
 
 called_as : (setting : Setting) (w : World) (c : ℕ) (what : Step) → true ≡ is_call what → MayClient what setting w c → (line : Line)
     → next_line setting.lines c (w.clients c) ≡ Some line → what ≡ Call line.number
-called_as setting w c (Call number) e may line next =
-    ap Call (sym may.is ∙ ap (λ (l : Line). l.number) (same_some (sym may.next ∙ next)))
+called_as setting w c (Call number) e may line next = ap Call (sym may.is ∙ ap (λ (l : Line). l.number) (same_some (sym may.next ∙ next)))
 called_as setting w c _ e may line next = true_false refl e
 
 module _ (script : Script) (sound : IsSound script) where
@@ -110,8 +109,7 @@ module _ (script : Script) (sound : IsSound script) where
       who = who;
       what = called_as setting (At script done) c own.step e may line next ∙ ap Call (sym number);
     }
-    called_now c new who may _ e (Was_open old was seq line on) =
-        called_on c new.line (subst (WasCalled done c) (sym line) (kept.called c old was))
+    called_now c new who may _ e (Was_open old was seq line on) = called_on c new.line (subst (WasCalled done c) (sym line) (kept.called c old was))
 
     kept_more : Kept more v
     kept_more = record {

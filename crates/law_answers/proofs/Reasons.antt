@@ -58,7 +58,7 @@ module _ (heard : Body → Type 0) (here : JobContext) (own : PairState) where
     pub asked : heard (body.Reserve number cell)
     pub none : FoundNoSlot own cell number
 
-  -- the server was to put the next entry of the last copy of the cell to it, and had no free slot; it tells the holder
+  -- the server was to put the next entry of the last copy of the cell to it, which it has not, and had no free slot; it tells the holder
   pub record Declines (to : Actor) (number : ℕ) (cell : Cell) : Type 0 where
     pub holder : ℕ
     pub goes : to ≡ actor.Server holder
@@ -113,11 +113,11 @@ module _ (heard : Body → Type 0) (here : JobContext) (own : PairState) where
     reason_of new _ (says.Ends client last why is) = unreasoned _ _ (ended_none last.seq last.ending)
     reason_of new _ (says.Has_no_slot number cell to same h follows found leads) =
         record { lead = to; goes = refl; leads = leads; follows = follows; asked = h; none = found }
-    reason_of new _ (says.Is_sync_full entry holder last same of_copy spot full) =
+    reason_of new _ (says.Is_sync_full entry holder last same of_copy spot full fresh) =
         record {
           holder = holder;
           goes = refl;
-          lacks = record { entry = entry; last = last; asked = of_copy; number_is = refl; cell_is = refl; next = spot; none_free = full };
+          lacks = record { entry = entry; last = last; asked = of_copy; number_is = refl; cell_is = refl; next = spot; none_free = full; not_there = fresh };
         }
     reason_of new _ (says.Has_no_room moving to same fresh full so) = Has_none moving refl fresh full
     reason_of new _ (says.Ends_fill op ending.Written to ended is none so) = tt

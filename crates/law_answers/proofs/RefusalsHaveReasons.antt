@@ -26,8 +26,7 @@ module _ (it : OneMore) (letter : Letter) where
       let f = reason_found it letter (body.BlockBusy seq) h says refl in record { server = f.server; is = f.is; busy = f.reason }
 
   pub held_reason : (seq : ℕ) → In letter own.sent → letter.body ≡ body.Held seq → FoundHeld setting w own.actor seq
-  held_reason seq h says =
-      let f = reason_found it letter (body.Held seq) h says refl in record { server = f.server; is = f.is; held = f.reason }
+  held_reason seq h says = let f = reason_found it letter (body.Held seq) h says refl in record { server = f.server; is = f.is; held = f.reason }
 
   pub fill_reason : (key : Key) → In letter own.sent → letter.body ≡ body.FillFull key → HadNoFill setting it.prior.records own.actor own.step key
   fill_reason key h says = let f = reason_found it letter (body.FillFull key) h says refl in by f f.reason
@@ -36,8 +35,7 @@ module _ (it : OneMore) (letter : Letter) where
           → SaysNone (Handled w f.server) (own_place setting w f.server) (w.servers f.server).own key
           → HadNoFill setting it.prior.records own.actor own.step key
       by f (Has_none moving is new full) = At_the_lead f.server moving f.is f.works is new full
-      by f (Was_declined op is fill of h) =
-          At_the_second f.server op f.is f.works is fill of h (told_lead it.prior f.server op.op (cell_of key) h)
+      by f (Was_declined op is fill of h) = At_the_second f.server op f.is f.works is fill of h (told_lead it.prior f.server op.op (cell_of key) h)
 
 -- so it is of each such letter that was sent
 pub was_declined : (run : Run) (letter : Letter) (key : Key) → In letter (after run).sent → letter.body ≡ body.FillFull key

@@ -15,8 +15,7 @@ mute_not : (letter : Letter) (seq : ℕ) → letter.body ≡ body.WrongRev seq �
 mute_not letter seq e mute = true_false (ap (λ said. is_mute said) (sym e) ∙ mute) refl
 
 shown_not : (line round : ℕ) (server : Server) (seq : ℕ) → shown line round server ≡ body.WrongRev seq → ⊥
-shown_not line round server seq =
-    by_test (λ said. said ≡ body.WrongRev seq → ⊥) server.life.running _ _ (λ t f. absurd (cc)) (λ t f. absurd (cc))
+shown_not line round server seq = by_test (λ said. said ≡ body.WrongRev seq → ⊥) server.life.running _ _ (λ t f. absurd (cc)) (λ t f. absurd (cc))
 
 server_tells : (setting : Setting) (w : World) (n : ℕ) (what : Step) (stamp : ℕ) → MayActor (actor.Server n) what setting w → (letter : Letter) (seq : ℕ)
     → In letter (step (actor.Server n) what setting w stamp).letters → letter.body ≡ body.WrongRev seq

@@ -173,8 +173,7 @@ module _ (w : World) (state : State) (c : ℕ) (client : Client) where
         );
     unsettled = l.unsettled;
   }
-  witnessed_learnt now asked l is (Some given) none =
-      answered_learnt now _ asked l is refl (λ settle. none_some (none settle) refl)
+  witnessed_learnt now asked l is (Some given) none = answered_learnt now _ asked l is refl (λ settle. none_some (none settle) refl)
 
   never_refused : (s : State) (told : Bool) (asked : Request) → asked ≡ request.Settle → refusal s told asked ≡ None
   unfolding refusal

@@ -246,8 +246,7 @@ module _ (script : Script) (sound : IsSound script) where
     saw_on line round server told rev s = record { at = glanced_on line round server s.at; so = s.so; known = s.known }
 
     full_on : (line : ℕ) → HasFoundFull setting (start setting) done line → HasFoundFull setting (start setting) records line
-    full_on line f =
-        record { round = f.round; server = f.server; at = glanced_on line f.round f.server f.at; runs = f.runs; full = f.full }
+    full_on line f = record { round = f.round; server = f.server; at = glanced_on line f.round f.server f.at; runs = f.runs; full = f.full }
 
     abbrev w : World
     w = W done
@@ -382,8 +381,7 @@ module _ (script : Script) (sound : IsSound script) where
         told_so : (one : Answer) → Ends_settle records asked.line one
             → (let o : Option (ℕ × Answer) = Some (asked.line, one) in o) ≡ Some (number, given)
             → Ends_settle records number given
-        told_so one ends e =
-            let f = pair_is e in subst (λ k. Ends_settle records k given) f.0 (subst (Ends_settle records asked.line) f.1 ends)
+        told_so one ends e = let f = pair_is e in subst (λ k. Ends_settle records k given) f.0 (subst (Ends_settle records asked.line) f.1 ends)
 
         round_ended : (round : sight.round ≡ asked.round) → sight.rev ≤ state.rev → length (more asked is sight has line).seen ≡ servers_of state
             → is_settled state (map (λ row. row.1) (more asked is sight has line).seen) ≡ true

@@ -228,8 +228,7 @@ module _ (R S : ℕ → ℕ → Type 0) (it : WereRefused R S) (n stamp : ℕ) w
         runs = runs;
       })
       (λ c seq h. inr h) done did seat) _ refl refl
-  worked_on runs _ _ (By_ballot log started posts same starts says) =
-      job_on S _ posts (ballot_refuses runs started posts says) _ refl refl
+  worked_on runs _ _ (By_ballot log started posts same starts says) = job_on S _ posts (ballot_refuses runs started posts says) _ refl refl
   worked_on runs _ _ (By_entry log entry plus prefix) = job_on S _ [] (entry_refuses runs entry) _ refl refl
 
   module _ (what : Step) (now : (c seq : ℕ) → HadNoSlot setting w (actor.Server n) what c seq → S c seq) where

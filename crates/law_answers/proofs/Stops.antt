@@ -4,12 +4,12 @@ use Rattle.law_answers.proofs.Imports.{[], ◌++◌, ◌<◌, ◌∙◌, ◌∷�
 use Rattle.law_answers.proofs.Imports.{JobContext, List, MayActor, MayServer, MayStop, NoneBoots, Record, Request, Script, Server, Setting, Step, Stop}
 use Rattle.law_answers.proofs.Imports.{StopIn, Work, WorkEnd, World, acts, ap, append_assoc, arith, by_bool, by_test, chosen_log, chosen_state, false}
 use Rattle.law_answers.proofs.Imports.{first_at_start, first_moment, first_state, inl, inr, is_in, is_log_job, is_overfull, job_done, moment_later, nat_lt}
-use Rattle.law_answers.proofs.Imports.{nat_tests, operator, own_place, prefix_legal, put_apart, put_at, put_same, refl, same_or_apart, server_state}
+use Rattle.law_answers.proofs.Imports.{nat_tests, operator, or_cases, own_place, prefix_legal, put_apart, put_at, put_same, refl, same_or_apart, server_state}
 use Rattle.law_answers.proofs.Imports.{server_step, setting_of, start, step, stepped, subst, sym, true, true_false, unbooted, who_runs_is_in, works}
 use Rattle.law_answers.proofs.Imports.{world_after, ℕ}
 use Rattle.law_answers.specs.Lines.{AsksToStop}
-use Rattle.law_answers.specs.Stops.{IsReasonToStop, Was_told, Device_failed, Device_stopped, Journal_full, HasReasonToStop, NoneIsStopped, NoneStopsByItself}
-use Rattle.law_answers.specs.Stops.{StaysDown, is_of_a_job, stops_a_server}
+use Rattle.law_answers.specs.Stops.{IsReasonToStop, Was_told, Device_failed, Device_stopped, Journal_full, Marks_full, HasReasonToStop, NoneIsStopped}
+use Rattle.law_answers.specs.Stops.{NoneStopsByItself, StaysDown, is_of_a_job, stops_a_server}
 use Rattle.law_answers.proofs.Lines.{asks_to_stop, line_of, open_for}
 use Rattle.petal_msg.specs.declared.letter.Actor.TheVariants as actor
 use Rattle.spec_rules.specs.declared.job.Job.TheVariants as job
@@ -17,7 +17,7 @@ use Rattle.spec_rules.specs.declared.step.WorkEnd.TheVariants as work_end
 
 -- ### One step
 
--- with room in both journals, a server goes on running
+-- with room for its commit, a server goes on running
 job_runs : (here : JobContext) (server : Server) (first : Job) (rest : List Job)
     → (job_done here server first rest).server.life.running ≡ server.life.running
 job_runs here server (job.Letter letter) rest =
@@ -39,12 +39,12 @@ module _ (setting : Setting) (w : World) (n : ℕ) (told : MayStop w n → IsRea
   works_why [] is = true_false ran
   works_why (first ∷ rest) is =
       by_test (λ (a : Acted). Why (Work work_end.Done) a.server) (is_overfull (job_done here server first rest).server) _ _
-      (λ full rests. Journal_full first rest refl is full) (λ room. true_false (job_runs here server first rest ∙ ran))
+      (λ full rests. elim (or_cases _ _ full) [ inl log ↦ Journal_full first rest refl is log | inr marks ↦ Marks_full first rest refl is marks ])
+      (λ room. true_false (job_runs here server first rest ∙ ran))
 
   server_why : (what : Step) → MayServer what setting w n → Why what (server_step what (server_state setting w n) n server).server
   server_why (Call line) may = absurd may
-  server_why (Deliver letter) may =
-      by_test (Why (Deliver letter)) server.life.running _ _ (λ on. true_false ran) (λ off. true_false ran)
+  server_why (Deliver letter) may = by_test (Why (Deliver letter)) server.life.running _ _ (λ on. true_false ran) (λ off. true_false ran)
   server_why (Work work_end.Done) may = works_why server.queue refl
   server_why (Work (work_end.Fault end)) may = λ rests. Device_failed end refl
   server_why (StopIn end) may = λ rests. Device_stopped end refl
@@ -156,6 +156,7 @@ all_run script records sound legal lines itself n low = by_bool (last.servers n)
       | Device_failed end step ↦ itself h.prefix h.own h.following n h.is (record { stops = h.stops; works = ap is_of_a_job step })
       | Device_stopped end step ↦ itself h.prefix h.own h.following n h.is (record { stops = h.stops; works = ap is_of_a_job step })
       | Journal_full first rest step queue full ↦ itself h.prefix h.own h.following n h.is (record { stops = h.stops; works = ap is_of_a_job step })
+      | Marks_full first rest step queue full ↦ itself h.prefix h.own h.following n h.is (record { stops = h.stops; works = ap is_of_a_job step })
     ]
 
 -- ### Where no server stops, none boots

@@ -5,10 +5,10 @@ use Rattle.law_answers.proofs.Imports.{Call, Client, Command, CommitEnd, Deliver
 use Rattle.law_answers.proofs.Imports.{List, LogDone, LogFrame, MayClient, MayServer, None, Of_the_log, Option, Post, Reaction, Reads, Says, Sender, Server}
 use Rattle.law_answers.proofs.Imports.{Setting, Shown, Some, State, Step, Stop, StopIn, Tick, Turned, Work, WorkEnd, World, ap, applied_entry, applied_none}
 use Rattle.law_answers.proofs.Imports.{applies, awake, boots, by_test, client_sender, client_state, client_step, client_turns, does, down_posts, entered}
-use Rattle.law_answers.proofs.Imports.{faults, first, glance_sender, glances, here_of, inl, inr, is_log_job, is_overfull, job_done, known, letter_frame_of}
-use Rattle.law_answers.proofs.Imports.{letters_of, map, next_line, next_place, one_post, operator, post_of, raised, refl, rev_of, said_in, sender}
-use Rattle.law_answers.proofs.Imports.{server_state, server_step, servers_of, shown, stamped, start_frame_of, starts, stays, stops, subst, sym, tick_posts}
-use Rattle.law_answers.proofs.Imports.{true, voter_of, wakes, wanted_by, worked, works, ℕ}
+use Rattle.law_answers.proofs.Imports.{faults, first, glance_sender, glances, has_full_log, here_of, inl, inr, is_log_job, is_overfull, job_done, known}
+use Rattle.law_answers.proofs.Imports.{letter_frame_of, letters_of, map, next_line, next_place, one_post, operator, post_of, raised, refl, rev_of, said_in}
+use Rattle.law_answers.proofs.Imports.{sender, server_state, server_step, servers_of, shown, stamped, start_frame_of, starts, stays, stops, subst, sym}
+use Rattle.law_answers.proofs.Imports.{tick_posts, true, voter_of, wakes, wanted_by, worked, works, ℕ}
 use Rattle.law_answers.proofs.LettersMuteOfRevisions.{IsMute, AreMute, none_mute, logged_mute}
 use Rattle.law_answers.proofs.JobSayings.{tick_mute, IsTold, Mute_post, Rev_post, job_tells}
 use Rattle.petal_msg.specs.declared.body.Body.TheVariants as body
@@ -86,7 +86,7 @@ faults_mute here server After stamp letter h = stops_mute here (works here serve
 boots_mute : (here : JobContext) (server : Server) (end : WorkEnd) (stamp : ℕ) (letter : Letter) → In letter (stamped stamp (boots here server end).letters)
     → IsMute letter.body
 boots_mute here server work_end.Done stamp letter h =
-    by_test (λ (a : Acted). In letter (stamped stamp a.letters) → IsMute letter.body) (is_overfull (raised server)) (stays server)
+    by_test (λ (a : Acted). In letter (stamped stamp a.letters) → IsMute letter.body) (has_full_log (raised server)) (stays server)
     (wakes here (awake (raised server)))
     (λ full i. no_letter stamp letter i)
     (λ room i. let up = awake (raised server) in

@@ -2,8 +2,8 @@
 -- lead of a disk's new map, or its second server, had none for an entry that this one was to move.
 use Rattle.law_answers.specs.Imports.{Actor, Body, Cell, Copying, Entry, FoundNoSlot, Handled, In, IsMoment, IsNewFill, IsNextKey, IsOfCopy, JobContext, Key}
 use Rattle.law_answers.specs.Imports.{LastCopy, Letter, LinkRow, Moving, PairState, Pending, Record, Setting, Step, Work, World, at, cell_cmp, cell_of}
-use Rattle.law_answers.specs.Imports.{chain_in, copying_on, first, free_of, own_place, second, server_state, start, world_after}
-use Rattle.std.specs.Prelude.{◌<◌, ◌≡◌, List, Some, length, true, ℕ}
+use Rattle.law_answers.specs.Imports.{chain_in, copying_on, first, free_of, has_stored, own_place, second, server_state, start, world_after}
+use Rattle.std.specs.Prelude.{◌<◌, ◌≡◌, List, Some, false, length, true, ℕ}
 use Rattle.law_answers.specs.Settles.{HasFoundFull}
 use Rattle.petal_msg.specs.declared.body.Body.TheVariants as body
 use Rattle.petal_msg.specs.declared.letter.Actor.TheVariants as actor
@@ -11,7 +11,7 @@ use Rattle.petal_msg.specs.declared.operation.OpKind.TheVariants as kind
 use Rattle.spec_rules.specs.declared.step.WorkEnd.TheVariants as work_end
 
 -- a server is to put the next entry of the copy of this number, the last one of the cell to this server, by the one that holds the
--- cell's link, by this server's own state; and no slot is free
+-- cell's link, by this server's own state; no slot is free, and the entry is not there already
 pub record LacksRoom (heard : Body → Type 0) (here : JobContext) (own : PairState) (holder number : ℕ) (cell : Cell) : Type 0 where
   pub entry : Entry
   pub last : LastCopy
@@ -20,6 +20,7 @@ pub record LacksRoom (heard : Body → Type 0) (here : JobContext) (own : PairSt
   pub cell_is : cell_of entry.key ≡ cell
   pub next : entry.index ≡ last.index
   pub none_free : free_of own.store ≡ 0
+  pub not_there : has_stored own.store entry.key entry.stored ≡ false
 
 -- so was a server in a job
 pub record HadNoRoom (setting : Setting) (w : World) (who : Actor) (what : Step) (holder number : ℕ) (cell : Cell) : Type 0 where

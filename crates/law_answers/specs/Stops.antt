@@ -1,6 +1,6 @@
 -- Why a server stops.
-use Rattle.law_answers.specs.Imports.{Asked, CommitEnd, In, IsMoment, Job, Line, Record, Request, Setting, Step, Stop, StopIn, Work, World, is_overfull}
-use Rattle.law_answers.specs.Imports.{job_done, own_place, stepped, world_after}
+use Rattle.law_answers.specs.Imports.{Asked, CommitEnd, In, IsMoment, Job, Line, Record, Request, Setting, Step, Stop, StopIn, Work, World, has_full_log}
+use Rattle.law_answers.specs.Imports.{has_too_many_marks, job_done, own_place, stepped, world_after}
 use Rattle.std.specs.Prelude.{[], ◌++◌, ◌∷◌, ◌≡◌, Bool, List, false, true, ℕ}
 use Rattle.law_answers.specs.Lines.{AsksToStop, IsLineOf}
 use Rattle.petal_msg.specs.declared.letter.Actor.TheVariants as actor
@@ -14,14 +14,17 @@ pub record Stops (setting : Setting) (w : World) (own : Record) (n : ℕ) : Type
   pub rests : ((stepped setting w own).world.servers n).life.running ≡ false
 
 -- why it stops in such a step: a line of the script that the operator has open tells it to; a device failed; a device's plan stops the
--- server at a call; or what the first job of its queue leaves has a journal with more records than there is room for
+-- server at a call; or what the first job of its queue leaves has more records in its state journal, or more marks on its data device, than there
+-- is room for
 pub data IsReasonToStop (setting : Setting) (w : World) (n : ℕ) (what : Step) : Type 0 where
   Was_told : (asked : Asked) (line : Line) → what ≡ Stop → AsksToStop line.request n → IsLineOf setting.lines w asked line
       → IsReasonToStop setting w n what
   Device_failed : (end : CommitEnd) → what ≡ Work (work_end.Fault end) → IsReasonToStop setting w n what
   Device_stopped : (end : CommitEnd) → what ≡ StopIn end → IsReasonToStop setting w n what
   Journal_full : (first : Job) (rest : List Job) → what ≡ Work work_end.Done → (w.servers n).queue ≡ first ∷ rest
-      → is_overfull (job_done (own_place setting w n) (w.servers n) first rest).server ≡ true → IsReasonToStop setting w n what
+      → has_full_log (job_done (own_place setting w n) (w.servers n) first rest).server ≡ true → IsReasonToStop setting w n what
+  Marks_full : (first : Job) (rest : List Job) → what ≡ Work work_end.Done → (w.servers n).queue ≡ first ∷ rest
+      → has_too_many_marks (job_done (own_place setting w n) (w.servers n) first rest).server ≡ true → IsReasonToStop setting w n what
 
 -- the server does not run, and after none of the records does
 abbrev pub StaysDown : Setting → World → List Record → ℕ → Type 0

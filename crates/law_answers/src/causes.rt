@@ -42,7 +42,8 @@ pub fn each_request_gets_an_answer_of_its_kind()
 {}
 
 /// A server of the script that does not run at the end stopped in a step of its own, and has not run since, for a reason: the
-/// operator's open line told it to, a device failed, a device's plan stopped it, or a journal was full.
+/// operator's open line told it to, a device failed, a device's plan stopped it, or there was no room: the state journal was
+/// full, or there would have been more marks than there may be.
 pub fn a_server_stops_for_a_reason()
     ensures { (script : Script) (records : List Record) → IsSound script → AreSteps script records
         → (n : ℕ) → n < script.servers → ((world_after (setting_of script) (start (setting_of script)) records).servers n).life.running ≡ false
@@ -50,7 +51,7 @@ pub fn a_server_stops_for_a_reason()
 {}
 
 /// A start or a blank that is answered `failed` gave its server, while its line was open, a boot that left the server stopped: a
-/// device failed, or the journal had no room for the next incarnation.
+/// device failed, or the state journal had no room for the next incarnation.
 pub fn a_boot_fails_for_a_reason()
     ensures { (script : Script) (records : List Record) → IsSound script → AreRising script.lines → AreSteps script records → (number : ℕ)
         → In (number, Failed) (world_after (setting_of script) (start (setting_of script)) records).answers

@@ -89,7 +89,7 @@ pub known_later : (old new : Pair) → Grows old new → (said : Body) → Known
 known_later old new grows (body.Reserve number cell) h = let more = grows.higher in omega arith
 known_later old new grows (body.Reserved number cell) h = let more = grows.onward in omega arith
 known_later old new grows (body.PairFull number cell) h = let more = grows.higher in omega arith
-known_later old new grows (body.Replicate number key version bytes) h = elim h [
+known_later old new grows (body.Replicate number key version origin bytes) h = elim h [
   | inl putting ↦ grows.putting number key bytes putting
   | inr past ↦ let more = grows.onward in inr (omega arith)
 ]

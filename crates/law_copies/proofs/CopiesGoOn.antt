@@ -108,8 +108,7 @@ copied_late (Some of) own block row other past = by_bool (eq_by_cmp link_cmp (id
 pub copied_yet : (of : LinkRow) (own : PairState) (block : ℕ) (row : LinkRow) (other : ℕ)
     → (eq_by_cmp link_cmp (id_of row) (id_of of) ≡ false) ⊎ (nat_lt block other ≡ true)
     → above (progress_on own row).copied other ≡ true → above (progress_on (with_copied (Some of) own block) row).copied other ≡ true
-copied_yet of own block row other (inl beside) past =
-    ap (λ (p : Progress). above p.copied other) (copied_apart own of block row beside) ∙ past
+copied_yet of own block row other (inl beside) past = ap (λ (p : Progress). above p.copied other) (copied_apart own of block row beside) ∙ past
 copied_yet of own block row other (inr lt) past = by_bool (eq_by_cmp link_cmp (id_of row) (id_of of))
     (λ t. yet_here own of block row t other lt past)
     (λ no. ap (λ (p : Progress). above p.copied other) (copied_apart own of block row no) ∙ past)

@@ -92,8 +92,7 @@ module _ (it : OneMore) where
       ])
 
   pub happens_goes : (state : State) (v : World) → Happens setting state w v → GoesTo it v
-  happens_goes state _ (Serves k stamp what acted lt small unblanked serving) =
-      server_goes it k stamp what acted unblanked serving
+  happens_goes state _ (Serves k stamp what acted lt small unblanked serving) = server_goes it k stamp what acted unblanked serving
   happens_goes state _ (Blanks k stamp lt small asleep) = blank_goes k stamp asleep
   happens_goes state _ (Turns c stamp in_call reacted lt c_lt turned onward) =
       client_goes c stamp reacted (λ post i. asked_mute (subject_of post.body) (turned_asks _ _ _ _ _ _ _ turned post i))

@@ -95,8 +95,7 @@ module _ (heard : Body → Type 0) (here : JobContext) (own : PairState) where
   page_answered done _ (Ends client last why is) f = pageless _ (ended_mute last.seq last.ending) f
   page_answered done _ (Ends_fill op how to ended is none lead) f = pageless _ (moved_mute op.key how) f
   page_answered done post (Moves _ same next) f = pageless post.body (ap (λ (p : Post). is_between (subject_of p.body)) next.is) f
-  page_answered done post (Moves_on key row _ same h is next) f =
-      pageless post.body (ap (λ (p : Post). is_between (subject_of p.body)) next.is) f
+  page_answered done post (Moves_on key row _ same h is next) f = pageless post.body (ap (λ (p : Post). is_between (subject_of p.body)) next.is) f
   page_answered done post (says.Of_the_log _ logged) f = pageless post.body (logged_apart (subject_of post.body) logged) f
   page_answered done _ _ f = true_false f refl
 

@@ -6,10 +6,10 @@ use Rattle.law_copies.proofs.Imports.{IsDroppedFor, IsIdle, IsNewCopy, IsNextPag
 use Rattle.law_copies.proofs.Imports.{Is_copied, Is_new, Is_off, Is_old, Is_over, Is_whole, JobContext, JobResult, Key, LastCopy, LastOp, LinkRow, List}
 use Rattle.law_copies.proofs.Imports.{MarkKind, Marks, May, None, Opens, Option, PairState, Pending, Puts, Reserved, Reserves, Sets, Some, Stale, Stood}
 use Rattle.law_copies.proofs.Imports.{Stored, Table, The_last_copy, Turns_page, Unmarks, ap, applied, arith, at, cell_apart, cell_at, cell_gone_apart}
-use Rattle.law_copies.proofs.Imports.{cell_holder, cell_of, chain_apart, chain_in, chains_with, copying_on, drop_apart, drop_none, each_come, ended, false}
-use Rattle.law_copies.proofs.Imports.{first, first_copy, first_last, follows, inl, inr, is_marked, is_second, job_keeps, key_at, last_copy, last_on, live}
-use Rattle.law_copies.proofs.Imports.{live_stage, mark_beside, marks, nat_cmp, pending_on, put, refl, same_cell_or_apart, same_or_apart, stage_at, stage_live}
-use Rattle.law_copies.proofs.Imports.{subst, sym, true, true_false, unmark_beside, unmark_none, was_same, ℕ}
+use Rattle.law_copies.proofs.Imports.{cell_holder, cell_of, cell_on, chain_apart, chain_in, chains_with, copying_on, drop_apart, drop_none, each_come, ended}
+use Rattle.law_copies.proofs.Imports.{false, first, first_copy, first_last, follows, inl, inr, is_marked, is_second, job_keeps, key_at, last_copy, last_on}
+use Rattle.law_copies.proofs.Imports.{live, live_stage, mark_beside, marks, nat_cmp, pending_on, put, refl, same_cell_or_apart, same_or_apart, stage_at}
+use Rattle.law_copies.proofs.Imports.{stage_live, subst, sym, true, true_false, unmark_beside, unmark_none, was_same, ℕ}
 use Rattle.law_jobs.specs.Effects.{Copies}
 use Rattle.law_copies.specs.LoneSteps.{IsBare, IsFit, KeepsCell}
 use Rattle.law_copies.proofs.RolesOfWorkers.{IsHeldBy, IsHeldHere, IsLedHere, above_none, begun_held, copying_held, entry_held, idle_both, led_here, op_leads}
@@ -30,24 +30,6 @@ module _ (heard : Body → Type 0) (here : JobContext) (own : PairState) (q : Ce
   dropped_apart now _ (A_new_copy number cell epochs epoch new left) on e = no_other new.holder (ap (cell_holder here) e ∙ new.held)
   dropped_apart now _ (The_last_copy cell holder last epoch held is same left) on e = no_other holder (ap (cell_holder here) e ∙ held)
   dropped_apart now _ (A_sweep key off) on e = true_false on (ap (live here.state) e ∙ off)
-
--- the cell that an effect is on, if it is on one
-abbrev pub cell_on : Effect → Option Cell
-cell_on (Opens op) = Some op.cell
-cell_on (Sets op) = Some op.cell
-cell_on (Closes cell) = Some cell
-cell_on (Reserves cell number) = Some cell
-cell_on (Puts key stored (As_operation op)) = Some op.cell
-cell_on (Puts key stored _) = Some (cell_of key)
-cell_on (Drops key) = Some (cell_of key)
-cell_on (Marks kind cell) = Some cell
-cell_on (Unmarks kind cell) = Some cell
-cell_on (Begins_copy cell) = Some cell
-cell_on (Copies cell copy) = Some cell
-cell_on (Ends_copy cell row) = Some cell
-cell_on (Is_copied cell number epochs) = Some cell
-cell_on (Turns_page row (Some block)) = Some (cell_at row block)
-cell_on _ = None
 
 -- only the other server of a link has these
 abbrev pub IsOfOther : Effect → Type 0
@@ -141,7 +123,7 @@ module _ (heard : Body → Type 0) (here : JobContext) (own : PairState) (fit : 
 
   put_second : (key : Key) (stored : Stored) (last : LastOp) → IsPutFor heard here own key stored (As_second last)
       → is_second here.state here.me (cell_of key) ≡ true
-  put_second _ _ _ (A_lead number key told version bytes h follows last next) = follows
+  put_second _ _ _ (A_lead number key told version origin bytes h follows last next) = follows
 
   put_held : (key : Key) (stored : Stored) (last : LastCopy) → IsPutFor heard here own key stored (As_copy last) → IsHeldBy here (cell_of key)
   put_held _ _ _ (A_copy entry holder last of at) = entry_held heard here own fit entry holder last of

@@ -1,16 +1,15 @@
 -- Each job of the holder of a link keeps a cell of it.
 use Rattle.law_copies.proofs.Imports.{◌∙◌, ◌≡◌, ◌≢◌, ◌≤◌, An_operation, As_copy, As_operation, As_second, Begins, Begins_copy, Body, By_a_copy}
-use Rattle.law_copies.proofs.Imports.{By_its_operation, Cell, Closes, CopyGoes, Copying, Did, Drops, Effect, Ends_copy, For_a_fill, For_a_write}
-use Rattle.law_copies.proofs.Imports.{Found_no_slot, Goes_on, Has_put, Has_trimmed, IsClosedFor, IsCopying, IsIdle, IsMarked, IsNextPage, IsOpening, IsPutFor}
-use Rattle.law_copies.proofs.Imports.{IsRising, IsSetFor, IsToBegin, IsToEnd, IsUnmarkedFor, Is_copied, Is_off, Is_old, Is_over, Is_whole, JobContext}
-use Rattle.law_copies.proofs.Imports.{JobResult, Key, LinkId, LinkRow, MarkKind, Marks, May, None, Opens, Option, PairState, Pending, Post, Progress, Puts}
-use Rattle.law_copies.proofs.Imports.{Reserves, Says, Sets, Some, Store, Stored, Table, Turns_page, Unmarks, about, above, ap, applied, arith, at}
-use Rattle.law_copies.proofs.Imports.{begins_copy, by_bool, cell_at, cell_cmp, cell_gone, cell_gone_apart, cell_holder, cell_link, cell_of, cell_same}
-use Rattle.law_copies.proofs.Imports.{chain_in, chain_put, chains_with, copying_on, ended, ended_copy, entry_ahead, eq_by_cmp, false, first_copy}
-use Rattle.law_copies.proofs.Imports.{has_proposed, held_as_flag, id_of, in_both, inl, inr, is_alone, is_flagged, is_second, length, letters_of_job, link_cmp}
-use Rattle.law_copies.proofs.Imports.{link_of, live, marks, nat_cmp, no_progress, none_some, pending_on, progress_on, put, refl, same_cell_or_apart, same_id}
-use Rattle.law_copies.proofs.Imports.{same_some, some_or_none, stale_kept, subst, sym, true, true_false, turned_page, under_way, unwrap_or, with_copying}
-use Rattle.law_copies.proofs.Imports.{with_page, without_copying, ℕ}
+use Rattle.law_copies.proofs.Imports.{By_its_operation, Cell, Closes, CopyGoes, Copying, Did, Drops, Effect, Ends_copy, For_a_fill, For_a_write, Found_no_slot}
+use Rattle.law_copies.proofs.Imports.{Goes_on, Has_put, Has_trimmed, IsClosedFor, IsCopying, IsIdle, IsMarked, IsNextPage, IsOpening, IsPutFor, IsRising}
+use Rattle.law_copies.proofs.Imports.{IsSetFor, IsToBegin, IsToEnd, IsUnmarkedFor, Is_copied, Is_off, Is_old, Is_over, Is_whole, JobContext, JobResult, Key}
+use Rattle.law_copies.proofs.Imports.{LinkId, LinkRow, MarkKind, Marks, May, None, Opens, Option, PairState, Pending, Post, Progress, Puts, Reserves, Says}
+use Rattle.law_copies.proofs.Imports.{Sets, Some, Store, Stored, Table, Turns_page, Unmarks, about, above, ap, applied, arith, at, begins_copy, by_bool}
+use Rattle.law_copies.proofs.Imports.{cell_at, cell_cmp, cell_gone, cell_gone_apart, cell_holder, cell_link, cell_of, cell_on, cell_same, chain_in, chain_put}
+use Rattle.law_copies.proofs.Imports.{chains_with, copying_on, ended, ended_copy, entry_ahead, eq_by_cmp, false, first_copy, has_proposed, held_as_flag, id_of}
+use Rattle.law_copies.proofs.Imports.{in_both, inl, inr, is_alone, is_flagged, is_second, length, letters_of_job, link_cmp, link_of, live, marks, nat_cmp}
+use Rattle.law_copies.proofs.Imports.{no_progress, none_some, pending_on, progress_on, put, refl, same_cell_or_apart, same_id, same_some, some_or_none}
+use Rattle.law_copies.proofs.Imports.{stale_kept, subst, sym, true, true_false, turned_page, under_way, unwrap_or, with_copying, with_page, without_copying, ℕ}
 use Rattle.law_jobs.specs.Effects.{Copies}
 use Rattle.law_copies.specs.CopyProgress.{AreCopying, IsTold}
 use Rattle.law_copies.specs.LoneSteps.{HolderKeeps, HolderStep, IsHolding, KeepsCell}
@@ -18,7 +17,7 @@ use Rattle.law_copies.specs.Pair.{HasMarks}
 use Rattle.law_copies.proofs.BlocksOnLinks.{on_block}
 use Rattle.law_copies.proofs.CopiesGoOn.{IsOnward, begun_onward, closed_onward, copied_itself, ended_onward, going_onward, onward_by, onward_tables}
 use Rattle.law_copies.proofs.CopyLetters.{telling}
-use Rattle.law_copies.proofs.EffectsOnCells.{Changes, cell_keeps, cell_on, copied_apart, dropped_apart}
+use Rattle.law_copies.proofs.EffectsOnCells.{Changes, cell_keeps, copied_apart, dropped_apart}
 use Rattle.law_copies.proofs.EmptyCellsHaveNoChain.{has_entry, no_entries}
 use Rattle.law_copies.proofs.EpochsRise.{AreRising, put_entry}
 use Rattle.law_copies.proofs.HolderChanges.{step_on}

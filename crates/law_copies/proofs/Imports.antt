@@ -12,14 +12,14 @@ pub use Rattle.law_state.proofs.Imports.{not_true, number_itself, option_and_the
 pub use Rattle.law_state.proofs.Imports.{same_some, second, secondary, slice_get, slice_get-map, slice_get_within, some_or_none, state_lead, subst, sym}
 pub use Rattle.law_state.proofs.Imports.{touches, true, true_false, unwrap_or, ℕ}
 pub use Rattle.law_log.proofs.Imports.{if◌then◌else◌, ◌||◌, Acted, AreSteps, Ask, Blank, Block, Body, Copying, Ending, Entry, Equal, Firm, HasProperTuple}
-pub use Rattle.law_log.proofs.Imports.{HasProperTuples, IsSettledState, IsSound, JobContext, JobResult, Key, LastCopy, LastOp, Letter, Life, Log, NextCopy}
-pub use Rattle.law_log.proofs.Imports.{Pending, Post, Reaction, Script, Step, Stored, Table, Wait, about, above, acts, all_put_apart, awake, begins_copy}
-pub use Rattle.law_log.proofs.Imports.{blanked, cell_at, cell_holder, cell_of, chain_in, client_sender, copying_on, ended, eq_by_cmp, fill_operation}
-pub use Rattle.law_log.proofs.Imports.{has_proposed, holds_link, id_of, is_eq, is_flagged, is_logged, is_second, is_under_way, key_at, last_copy, last_on}
-pub use Rattle.law_log.proofs.Imports.{link_named, log_plain, map, moved_as, nat_cmp, nat_cmp_total, no_progress, other_in, pending_on, post_of, progress_on}
-pub use Rattle.law_log.proofs.Imports.{proposed, put_apart, put_same, puts_entry, raised, ranked, reacts, same_block, sender, server_state, setting_of}
-pub use Rattle.law_log.proofs.Imports.{silent, stamped, start, state_in, stays, subject_of, tied_itself, wakes, with_copied, with_last_copy, with_page}
-pub use Rattle.law_log.proofs.Imports.{with_progress, without_copying, world_after}
+pub use Rattle.law_log.proofs.Imports.{HasProperTuples, IsSettledState, IsSound, JobContext, JobResult, Key, LastCopy, LastOp, Letter, Life, Log, Named}
+pub use Rattle.law_log.proofs.Imports.{NextCopy, Pending, Post, Reaction, Script, Step, Stored, Table, Wait, about, above, acts, all_put_apart, awake}
+pub use Rattle.law_log.proofs.Imports.{begins_copy, blanked, cell_at, cell_holder, cell_of, chain_in, client_sender, copying_on, ended, eq_by_cmp}
+pub use Rattle.law_log.proofs.Imports.{fill_operation, has_proposed, holds_link, id_of, is_eq, is_flagged, is_logged, is_second, is_under_way, key_at}
+pub use Rattle.law_log.proofs.Imports.{last_copy, last_on, link_named, log_plain, map, moved_as, nat_cmp, nat_cmp_total, no_progress, other_in, pending_on}
+pub use Rattle.law_log.proofs.Imports.{post_of, progress_on, proposed, put_apart, put_same, puts_entry, raised, ranked, reacts, same_block, sender}
+pub use Rattle.law_log.proofs.Imports.{server_state, setting_of, silent, stamped, start, state_in, stays, subject_of, tied_itself, wakes, with_copied}
+pub use Rattle.law_log.proofs.Imports.{with_last_copy, with_page, with_progress, without_copying, world_after}
 unfoldable pub use Rattle.law_log.proofs.Imports.{next_copy, put_at}
 pub use Rattle.law_steps.specs.Imports.{Busy, IsBelow, MarkKind, Nothing, Paired, Sender, Stage, Stale, StaysSo, Subject, before_blanks, cell_cmp, crossed}
 pub use Rattle.law_steps.specs.Imports.{epochs_beyond, epochs_of, follows, holder_of, least, letters_of, live, marked_blocks, marks, operation, settled_by}
@@ -58,7 +58,7 @@ pub use Rattle.law_jobs.specs.Effects.{By_a_copy, By_its_operation, Closes, Copy
 pub use Rattle.law_jobs.specs.Effects.{Goes_on, HasEnded, Has_put, Has_trimmed, Holds_slots, Idle, IsApart, IsClosedFor, IsDroppedFor, IsIdle, IsNewCopy}
 pub use Rattle.law_jobs.specs.Effects.{IsNextPage, IsNotHeld, IsOpening, IsPutFor, IsReserved, IsSetFor, IsToBegin, IsToEnd, IsUnderWay, IsUnmarkedFor}
 pub use Rattle.law_jobs.specs.Effects.{Is_copied, Is_declined, Is_off, Is_old, Is_over, Is_retired, Is_whole, Marks, May, Opens, Puts, Reserves, Sets}
-pub use Rattle.law_jobs.specs.Effects.{The_last_copy, Turns_page, Unmarks, applied, ended_copy, entry_ahead, turned_page}
+pub use Rattle.law_jobs.specs.Effects.{The_last_copy, Turns_page, Unmarks, applied, cell_on, ended_copy, entry_ahead, turned_page}
 pub use Rattle.law_jobs.specs.Sayings.{Asks_copy, Asks_slot, Begins, Ends_fill, Has_copy, Has_slot, IsCopying, Is_sync_full, Is_synced, Moves, Moves_on, Says}
 pub use Rattle.law_jobs.specs.Sayings.{Syncs, Tells_page, Trims}
 pub use Rattle.law_log.proofs.BallotFlags.{flag_put}

@@ -105,7 +105,7 @@ module _ (it : CellInBoth) (leads : it.row.primary ≡ it.here.me) (second_own :
   -- ### All effects
 
   second_put : (key : Key) (stored : Stored) (last : LastOp) → IsPutFor heard here own key stored (As_second last) → cell ≢ cell_of key
-  second_put _ _ _ (A_lead number key told version bytes h follows last next) = second_apart it leads (cell_of key) follows
+  second_put _ _ _ (A_lead number key told version origin bytes h follows last next) = second_apart it leads (cell_of key) follows
 
   -- the cell stays
   after : (now new : PairState) → K now → chain_in new.store.chains cell ≡ chain_in now.store.chains cell

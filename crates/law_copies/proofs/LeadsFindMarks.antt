@@ -1,8 +1,8 @@
 -- A lead puts only on a block that is marked on its device, and its operations find the marks that their stages tell of.
-use Rattle.law_copies.proofs.Imports.{◌+◌, ◌||◌, ◌∙◌, ◌≡◌, ◌≢◌, ◌⊎◌, A_lead, An_operation, As_copy, As_operation, As_second, Body, Busy, By_a_copy}
+use Rattle.law_copies.proofs.Imports.{◌&&◌, ◌+◌, ◌||◌, ◌∙◌, ◌≡◌, ◌≢◌, ◌⊎◌, A_lead, An_operation, As_copy, As_operation, As_second, Body, Busy, By_a_copy}
 use Rattle.law_copies.proofs.Imports.{By_its_operation, Cell, Closes, Copying, Did, Drops, Effect, For_a_fill, For_a_write, Goes_on, Idle, IsIdle, IsMarked}
 use Rattle.law_copies.proofs.Imports.{IsOpening, IsPutFor, IsSetFor, IsUnmarkedFor, Is_off, Is_old, JobContext, JobResult, Key, LastOp, MarkKind, Marks, May}
-use Rattle.law_copies.proofs.Imports.{None, Opens, PairState, Pairs, Pending, Puts, Sets, Some, Stale, Store, Stored, Turns_page, Unmarks, among_least, ap}
+use Rattle.law_copies.proofs.Imports.{None, Opens, PairState, Pairs, Pending, Puts, Sets, Some, Stale, Store, Stored, Turns_page, Unmarks, ap, both_true}
 use Rattle.law_copies.proofs.Imports.{applied, at, both, cell_apart, cell_at, cell_cmp, cell_holder, cell_of, cell_same, chain_in, copying_on, did_ready}
 use Rattle.law_copies.proofs.Imports.{drop_apart, entry_ahead, false, follows, in_filter, inl, inr, is_marked, is_second, is_some, is_under_way, job_keeps}
 use Rattle.law_copies.proofs.Imports.{leads_link, led_by_link, live, live_stage, mark_kept, marked_blocks, nat_cmp, none_some, not, not_true, pending_on, put}
@@ -70,9 +70,10 @@ module _ (heard : Body → Type 0) (here : JobContext) (own : PairState) (fit : 
 
     -- nothing is under way where an idle mark is taken away
     idle_free : (cell : Cell) → IsIdle here own cell → pending_on own cell ≡ None
-    idle_free _ (Idle id row block named both is) =
-        let left = in_filter (λ b. not (is_under_way own (cell_at row b))) (marked_blocks here.state row own) block (among_least _ block is) in
-        let free : is_under_way own (cell_at row block) ≡ false = not_true _ left.1 in
+    idle_free _ (Idle id row kind block named both i) =
+        let left = in_filter (λ b. is_marked own.store kind (cell_at row b) && not (is_under_way own (cell_at row b)))
+        (marked_blocks here.state row own) block i in
+        let free : is_under_way own (cell_at row block) ≡ false = not_true _ (both_true _ _ left.1).1 in
         elim (some_or_none (pending_on own (cell_at row block))) [
           | inl there ↦ true_false (ap (λ o. is_some o || is_some (copying_on own (cell_at row block))) there.1) free
           | inr none ↦ none
@@ -122,7 +123,7 @@ module _ (heard : Body → Type 0) (here : JobContext) (own : PairState) (fit : 
         }
 
     pub second_apart : (key : Key) (stored : Stored) (last : LastOp) → IsPutFor heard here own key stored (As_second last) → q ≢ cell_of key
-    second_apart _ _ _ (A_lead number key told version bytes h follows last next) e = no_second (ap (is_second here.state here.me) e ∙ follows)
+    second_apart _ _ _ (A_lead number key told version origin bytes h follows last next) e = no_second (ap (is_second here.state here.me) e ∙ follows)
 
     pub each_marks : (now : PairState) (e : Effect) → May heard here own now e → K now → K (applied now e)
     each_marks now (Opens op) may k = record {

@@ -93,7 +93,7 @@ module _ (heard : Body → Type 0) (here : JobContext) (own : PairState) where
         inr (other_spoken q (record { lives = on; holder = holder; held = subst (λ (c : Cell). cell_holder here c ≡ Some holder) same held }))
     may_speak new lives _ (Syncs cell copy row to copies trimmed spot so) e = inr (spoken cell (copying_spoken cell new copy copies) e)
     may_speak new lives _ (Is_synced entry holder last later of is number lt) e = inr (spoken (cell_of entry.key) (entry_spoken entry holder last of) e)
-    may_speak new lives _ (Is_sync_full entry holder last same of spot full) e = inr (spoken (cell_of entry.key) (entry_spoken entry holder last of) e)
+    may_speak new lives _ (Is_sync_full entry holder last same of spot full fresh) e = inr (spoken (cell_of entry.key) (entry_spoken entry holder last of) e)
     may_speak new lives _ (Ends_fill op how to ended is none so) e = inl (moved_mute op.key how)
     may_speak new lives post (Moves _ same next) e = inl (ap (λ (p : Post). is_between (subject_of p.body)) next.is)
     may_speak new lives post (Moves_on key row _ same h is next) e = inl (ap (λ (p : Post). is_between (subject_of p.body)) next.is)

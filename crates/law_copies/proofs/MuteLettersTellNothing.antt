@@ -14,7 +14,7 @@ pub unpaired_known : (pair : Pair) (said : Body) → is_paired (subject_of said)
 unpaired_known pair (body.Reserve number cell) e = cc
 unpaired_known pair (body.Reserved number cell) e = cc
 unpaired_known pair (body.PairFull number cell) e = cc
-unpaired_known pair (body.Replicate number key version bytes) e = cc
+unpaired_known pair (body.Replicate number key version origin bytes) e = cc
 unpaired_known pair (body.Replicated number cell) e = cc
 unpaired_known pair _ e = tt
 

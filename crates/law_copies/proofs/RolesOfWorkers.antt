@@ -1,8 +1,8 @@
 -- What a server is to a cell, which can't be what else it is not.
 use Rattle.law_copies.proofs.Imports.{◌&&◌, ◌<◌, ◌==◌, ◌∙◌, ◌≡◌, ◌≢◌, ◌≤◌, Block, Body, Both, Busy, Cell, Copying, Entry, Idle, IsBothRow, IsHeldWith, IsIdle}
 use Rattle.law_copies.proofs.Imports.{IsOfCopy, IsSteady, JobContext, LastCopy, LinkId, LinkRow, None, Only, Option, PairState, Pending, Some, Stale, State}
-use Rattle.law_copies.proofs.Imports.{TakenCopy, after, among_least, ap, arith, both, both_row, both_true, by_bool, by_test, cell_at, cell_holder, cell_link}
-use Rattle.law_copies.proofs.Imports.{cell_of, copying_on, filter, first, found_at, holder_of, id_of, in_both, in_filter, inl, inr, is_alone, is_lead}
+use Rattle.law_copies.proofs.Imports.{TakenCopy, after, ap, arith, both, both_row, both_true, by_bool, by_test, cell_at, cell_holder, cell_link}
+use Rattle.law_copies.proofs.Imports.{cell_of, copying_on, first, found_at, holder_of, id_of, in_both, in_filter, inl, inr, is_alone, is_lead, is_marked}
 use Rattle.law_copies.proofs.Imports.{is_link, is_second, is_the_one, is_under_way, is_up, lead_links, leads_link, link_led_by, link_named, live, live_stage}
 use Rattle.law_copies.proofs.Imports.{marked_blocks, nat_tests, next_copy, none_some, not, on_row, option_and_then, other_in, other_of, pending_on, refl}
 use Rattle.law_copies.proofs.Imports.{retired_second, row_lead, row_named, same_numbers, same_or_apart, same_some, second, second_by, stage_at, stage_live}
@@ -130,10 +130,9 @@ pub record IsHeldBy (here : JobContext) (cell : Cell) : Type 0 where
 
 -- an idle mark is on a live cell of a link in Both
 pub idle_both : (here : JobContext) (own : PairState) (cell : Cell) → IsIdle here own cell → IsBothRow here.state cell × (live here.state cell ≡ true)
-idle_both here own _ (Idle id row block named both idle) =
-    let i = among_least (filter (λ b. not (is_under_way own (cell_at row b))) (marked_blocks here.state row own)) block idle in
+idle_both here own _ (Idle id row kind block named both i) =
     let marked = marked_on here.state id row own block named
-    (in_filter (λ b. not (is_under_way own (cell_at row b))) (marked_blocks here.state row own) block i).0 in
+    (in_filter (λ b. is_marked own.store kind (cell_at row b) && not (is_under_way own (cell_at row b))) (marked_blocks here.state row own) block i).0 in
     (record { row = row; is = marked.is; both = both }, marked.lives)
 
 module _ (heard : Body → Type 0) (here : JobContext) (own : PairState) (fit : IsFit heard here own) where

@@ -1,8 +1,8 @@
 -- What a step of the second server of a cell in Both keeps of its two copies.
 use Rattle.law_copies.proofs.Imports.{◌+◌, ◌∙◌, ◌≡◌, ◌≤◌, ◌⊎◌, A_lead, As_copy, As_operation, As_second, Body, Cell, Did, Drops, Effect, IsPutFor, JobResult}
-use Rattle.law_copies.proofs.Imports.{Key, LastOp, List, May, PairState, Pending, Puts, Replicated, Reserved, Reserves, Some, Stored, about, ap, applied}
-use Rattle.law_copies.proofs.Imports.{arith, at, cell_cmp, cell_of, cell_same, chain_in, chain_put, chains_with, inl, inr, nat_cmp, progress, put, putting}
-use Rattle.law_copies.proofs.Imports.{refl, same_some, subst, sym, version_of, ℕ}
+use Rattle.law_copies.proofs.Imports.{Key, LastOp, List, May, Named, Option, PairState, Pending, Puts, Replicated, Reserved, Reserves, Some, Stored, about}
+use Rattle.law_copies.proofs.Imports.{ap, applied, arith, at, cell_cmp, cell_of, cell_same, chain_in, chain_put, chains_with, inl, inr, nat_cmp, progress}
+use Rattle.law_copies.proofs.Imports.{put, putting, refl, same_some, subst, sym, version_of, ℕ}
 use Rattle.law_copies.specs.BothSteps.{LacksFill}
 use Rattle.law_copies.specs.Pair.{IsPutting, Keeps, Known, Pair, PairOk, far, pair_of}
 use Rattle.law_copies.proofs.CellInBoth.{CellInBoth, no_other, own_put_apart}
@@ -53,17 +53,18 @@ module _ (it : CellInBoth) (follows : it.row.secondary ≡ it.here.me) (first : 
   abbrev followed : ℕ → LastOp
   followed number = record { op = number; progress = follow_progress.Replicated }
 
-  follows_keeps : (now : PairState) (number : ℕ) (key : Key) (told version : ℕ) (bytes : List ℕ) → heard (body.Replicate number key told bytes)
+  follows_keeps : (now : PairState) (number : ℕ) (key : Key) (told version : ℕ) (origin : Option Named) (bytes : List ℕ)
+      → heard (body.Replicate number key told origin bytes)
       → at cell_cmp own.pairs.last (cell_of key) ≡ Some (record { op = number; progress = follow_progress.Reserved })
       → version ≡ version_of (chain_in own.store.chains (cell_of key)) + 1 → now.store.chains ≡ own.store.chains → cell ≡ cell_of key
       → IsKept (applied now (Puts key (record { version = version; bytes = bytes }) (As_second (followed number))))
-  follows_keeps now number key told version bytes h is next chains e =
+  follows_keeps now number key told version origin bytes h is next chains e =
       let last = followed number in
       let stored : Stored = record { version = version; bytes = bytes } in
       let q = cell_of key in
       let new = applied now (Puts key stored (As_second last)) in
       let was = ap (at cell_cmp own.pairs.last) e ∙ is in
-      let putting = asked number key bytes (pair own) was (known (body.Replicate number key told bytes) h (ap Some (sym e))) in
+      let putting = asked number key bytes (pair own) was (known (body.Replicate number key told origin bytes) h (ap Some (sym e))) in
       let there : at cell_cmp new.pairs.last cell ≡ Some last = ap (at cell_cmp new.pairs.last) e ∙ cell_same now.pairs.last q last in
       let chain : put nat_cmp (chain_in own.store.chains cell) key.epoch (record { version = version_of (chain_in own.store.chains cell) + 1; bytes = bytes })
       ≡ chain_in new.store.chains cell =
@@ -85,7 +86,8 @@ module _ (it : CellInBoth) (follows : it.row.secondary ≡ it.here.me) (first : 
 
   second_put : (now : PairState) (key : Key) (stored : Stored) (last : LastOp) → IsPutFor heard here own key stored (As_second last)
       → now.store.chains ≡ own.store.chains → cell ≡ cell_of key → IsKept (applied now (Puts key stored (As_second last)))
-  second_put now _ _ _ (A_lead number key told version bytes h s last next) chains e = follows_keeps now number key told version bytes h last next chains e
+  second_put now _ _ _ (A_lead number key told version origin bytes h s last next) chains e =
+      follows_keeps now number key told version origin bytes h last next chains e
 
   each : (now : PairState) (e : Effect) → May heard here own now e → Changes heard here own fit cell it.alive now e → IsKept now → IsKept (applied now e)
   each now (Reserves q number) may (inl on) k =

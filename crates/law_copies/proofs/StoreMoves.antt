@@ -44,10 +44,6 @@ own_blank (Join server joined true) n inc e =
     λ i. Join (one i) (two i) true
 own_blank _ n inc e = true_false e refl
 
-settled_waits : (store : Store) → (settled store).fresh ≡ false
-settled_waits store =
-    by_test (λ (s : Store). s.fresh ≡ false) store.fresh (record store { fresh = false; records = store.records + 1 }) store (λ e. refl) (λ e. e)
-
 module _ (setting : Setting) (w : World) (n : ℕ) where
   abbrev server : Server
   server = w.servers n
@@ -77,7 +73,7 @@ module _ (setting : Setting) (w : World) (n : ℕ) where
       let applied : to.log.applied ≡ server.log.applied ++ entry ∷ [] = ap (λ (l : Log). l.applied) later.2 ∙ more in
       let stands : IsPrefix (server.log.applied ++ entry ∷ []) (chosen_log setting w) = subst (λ xs. IsPrefix xs (chosen_log setting w)) more prefix in
       by_test (λ (o : PairState). to.own ≡ o → To to) (is_blank_join entry n server.life.inc) (record own { store = settled own.store }) own
-      (λ joins is. Settles to (ap (λ (o : PairState). o.store.fresh) is ∙ settled_waits own.store) later.1 runs
+      (λ joins is. Settles to (ap (λ (o : PairState). o.store.fresh) is) later.1 runs
       (subst (λ c. IsPrefix (server.log.applied ++ c ∷ []) (chosen_log setting w)) (own_blank entry n server.life.inc joins) stands))
       (λ other is. Enters to entry other
       (record {

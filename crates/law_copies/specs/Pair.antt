@@ -96,7 +96,7 @@ abbrev pub Known : Pair → Body → Type 0
 Known pair (body.Reserve number cell) = number < ceiling pair
 Known pair (body.Reserved number cell) = number + number ≤ far pair
 Known pair (body.PairFull number cell) = number < ceiling pair
-Known pair (body.Replicate number key version bytes) = IsPutting pair.pending number key bytes ⊎ (number + number + 1 ≤ far pair)
+Known pair (body.Replicate number key version origin bytes) = IsPutting pair.pending number key bytes ⊎ (number + number + 1 ≤ far pair)
 Known pair (body.Replicated number cell) = number + number + 1 ≤ far pair
 Known pair _ = Unit {0}
 

@@ -8,7 +8,7 @@ module _ (bound : Cell → ℕ → Type 0) (heard : Body → Type 0) (here : Job
     (told : (said : Body) → heard said → OfKey (IsWithin bound) said) where
   within : (key : Key) (stored : Stored) (noted : Noted) → IsPutFor heard here own key stored noted → IsWithin bound key
   within _ _ _ (An_operation op reserved paired is fresh why) = pending op.cell op is
-  within _ _ _ (A_lead number key version put bytes h follows last next) = told _ h
+  within _ _ _ (A_lead number key version put origin bytes h follows last next) = told _ h
   within _ _ _ (A_copy entry holder last of_copy next) = told _ of_copy.said
 
   pub becomes_kept : (now : PairState) → Becomes heard here own now → AreWithin bound now.store.chains

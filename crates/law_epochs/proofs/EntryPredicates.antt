@@ -15,13 +15,13 @@ AreWithin bound chains = (cell : Cell) (epoch : ℕ) (entry : Stored) → at nat
 
 -- of a letter that tells of an entry this is so of the entry's key
 abbrev pub OfKey : (Key → Type 0) → Body → Type 0
-OfKey P (body.Replicate number key version bytes) = P key
+OfKey P (body.Replicate number key version origin bytes) = P key
 OfKey P (body.Sync number key version index bytes) = P key
 OfKey P (body.Fill key bytes) = P key
 OfKey P _ = Unit {0}
 
 pub of_key_on : (P Q : Key → Type 0) → ((key : Key) → P key → Q key) → (said : Body) → OfKey P said → OfKey Q said
-of_key_on P Q on (body.Replicate number key version bytes) h = on key h
+of_key_on P Q on (body.Replicate number key version origin bytes) h = on key h
 of_key_on P Q on (body.Sync number key version index bytes) h = on key h
 of_key_on P Q on (body.Fill key bytes) h = on key h
 of_key_on P Q on _ h = tt
@@ -34,7 +34,7 @@ is_of_entries Filling = true
 is_of_entries _ = false
 
 pub of_no_key : (P : Key → Type 0) (said : Body) → is_of_entries (subject_of said) ≡ false → OfKey P said
-of_no_key P (body.Replicate number key version bytes) e = cc
+of_no_key P (body.Replicate number key version origin bytes) e = cc
 of_no_key P (body.Sync number key version index bytes) e = cc
 of_no_key P (body.Fill key bytes) e = cc
 of_no_key P _ e = tt

@@ -2,10 +2,9 @@
 -- a report by which the era rose would have been made before the visit, or during it.
 use Rattle.law_epochs.proofs.Imports.{[], ◌++◌, ◌∙◌, ◌∷◌, ◌≡◌, ◌≤◌, ◌⊎◌, AliveIn, AreSteps, At, Cell, Command, HasProperTuples, IsAt, IsLinked, IsPrefix}
 use Rattle.law_epochs.proofs.Imports.{LinkRow, List, Pairs, Pending, Record, Setting, Some, WasDraining, WasThere, World, ap, append-nil, arith, at, at_by}
-use Rattle.law_epochs.proofs.Imports.{at_most_or_above, before_part, cell_cmp, chosen_log, either_prefix, history_grows, in_between, inl, inr, is_at}
-use Rattle.law_epochs.proofs.Imports.{is_at_so, is_clients, is_in, length, log_below, place_by, place_of_later, places_from, places_grow, prefix_long}
-use Rattle.law_epochs.proofs.Imports.{prefix_on, prefix_within, same_place, seat_stays, split_prefixes, stage_at, stage_most, state_after, subst, sym, true}
-use Rattle.law_epochs.proofs.Imports.{ℕ}
+use Rattle.law_epochs.proofs.Imports.{at_most_or_above, before_part, cell_cmp, chosen_log, either_prefix, history_grows, in_between, inl, inr, is_at, is_at_so}
+use Rattle.law_epochs.proofs.Imports.{is_clients, is_in, length, log_below, place_by, place_of_later, places_from, places_grow, prefix_long, prefix_on}
+use Rattle.law_epochs.proofs.Imports.{prefix_within, same_place, seat_stays, split_prefixes, stage_at, stage_most, state_after, subst, sym, true, ℕ}
 use Rattle.spec_state.specs.State.{start}
 use Rattle.law_epochs.specs.InTime.{IsTimely}
 use Rattle.law_epochs.proofs.PendingIsInTime.{IsOpened, IsReported, chosen_plain, firm, opened_by, opened_later, ran, seated_now, timely_or_reported}

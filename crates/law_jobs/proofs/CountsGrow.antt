@@ -33,7 +33,7 @@ module _ (heard : Body → Type 0) (here : JobContext) (own : PairState) where
 
     second_far : (key : Key) (stored : Stored) (last : LastOp) → IsPutFor heard here own key stored (As_second last) → cell ≡ cell_of key
         → far_on own ≤ far_of last.op last.progress
-    second_far _ _ _ (A_lead number key told version bytes h s last next) e =
+    second_far _ _ _ (A_lead number key told version origin bytes h s last next) e =
         let was : far_on own ≡ number + number = ap (λ c. progress (last_on own c)) e ∙ ap progress last in omega arith
 
     follows : (now : PairState) (e : Effect) → May heard here own now e → far_on own ≤ far_on now → far_on own ≤ far_on (applied now e)

@@ -12,21 +12,23 @@ pub use Rattle.law_log.proofs.Imports.{last_on, nat_cmp, pending_on, post_to, pr
 pub use Rattle.law_log.proofs.Imports.{with_progress, without_copying, without_pending, world_after}
 unfoldable pub use Rattle.law_log.proofs.Imports.{step}
 pub use Rattle.law_steps.specs.Imports.{Busy, Finished, IsBelow, MarkKind, Stage, Stale, Subject, acts, cell_cmp, coming, crossed, live, marks, next_stage}
-pub use Rattle.law_steps.specs.Imports.{operation, puts, with_pending, with_reserved, without_entry, without_mark_on}
+pub use Rattle.law_steps.specs.Imports.{operation, origin_by, puts, with_pending, with_reserved, without_entry, without_mark_on}
 pub use Rattle.law_steps.proofs.Imports.{Chain, Filling, Logged, Mark, Pairs, Store, at-empty, cell_apart, cell_gone, cell_gone_apart, cell_same}
 pub use Rattle.law_steps.proofs.Imports.{history_grows, history_is_firm, log_rev, prefix_on, settling, version_of, with_mark_at, with_mark_on}
 unfoldable pub use Rattle.law_steps.proofs.Imports.{put, without}
 pub use Rattle.law_jobs.specs.Imports.{AreSteps, IsNextFill, IsNextKey, IsSound, Taken, TakenCopy, chains_with, first_copy, first_last, is_marked, progress}
 pub use Rattle.law_jobs.specs.Imports.{putting, setting_of, start}
-pub use Rattle.std.specs.Prelude.{◌+◌, ◌-◌}
+pub use Rattle.std.specs.Prelude.{◌+◌, ◌-◌, suc, zero}
 pub use Rattle.busy_marks.proofs.Orders.{is_mark}
 pub use Rattle.busy_marks.proofs.Sets.{is_set, set_apart, set_keeps, unset_apart, unset_back}
-pub use Rattle.busy_marks.specs.Marks.{same_mark}
+pub use Rattle.busy_marks.specs.Marks.{same_mark, without_mark}
+pub use Rattle.law_state.proofs.ListLookups.{in_filter}
 pub use Rattle.law_state.proofs.Moments.{last_moment, moment_more}
 pub use Rattle.law_state.proofs.Prefixes.{below_itself}
 pub use Rattle.law_state.specs.Moments.{IsMoment}
 pub use Rattle.law_steps.proofs.KindsInHistories.{firm_now, happens, last_happens, own_plain, prefix_legal, proposed_pairs, ready_after, rests_after}
 pub use Rattle.law_steps.proofs.KindsInHistories.{rests_next, start_rests, world_more}
+pub use Rattle.law_steps.proofs.CopiesRest.{among_least}
 pub use Rattle.law_steps.proofs.LettersOfSteps.{Aside, IsOfJob, Of_job, Was_sent, happens_sent, is_aside}
 pub use Rattle.law_steps.proofs.MovesAreOfComingCells.{next_comes}
 pub use Rattle.law_steps.proofs.OperationsRest.{same_cell_or_apart}
@@ -52,6 +54,7 @@ pub use Rattle.law_steps.specs.DidSweep.{DidSweep, Sweeps}
 pub use Rattle.law_steps.specs.Operations.{far_of}
 pub use Rattle.law_steps.specs.Ready.{AreFirm, Ready, Rests}
 pub use Rattle.petal_table.proofs.Rows.{at_apart, at_same}
-pub use Rattle.spec_rules.specs.Store.{chains_at, mark_on}
+pub use Rattle.spec_rules.specs.Copies.{idle_blocks, idle_from, next_idle, unmarks_limit}
+pub use Rattle.spec_rules.specs.Store.{chains_at, mark_on, unmark_all_on}
 pub use Rattle.spec_rules.specs.World.{with_answer}
 pub use Rattle.spec_rules.specs.Writes.{is_clients}

@@ -7,16 +7,16 @@ use Rattle.law_jobs.proofs.Imports.{Is_copied_to, Is_filled, Is_full, Is_out_of_
 use Rattle.law_jobs.proofs.Imports.{Marks, Marks_alone, None, OpKind, Opens, Opens_alone, Opens_fill, Opens_fill_alone, Option, PairState, Pending, Promises}
 use Rattle.law_jobs.proofs.Imports.{Puts, Puts_alone, Puts_entry, Refuses, Sends, Sets_apart, Some, Stage, Sweeps, Taken, TakenCopy, Tidies, TrimStep}
 use Rattle.law_jobs.proofs.Imports.{Turns_page, Unmarks_alone, Unmarks_copied, above, acts, ap, begins_copy, by_test, cell_at, cell_gone, cell_link, cell_of}
-use Rattle.law_jobs.proofs.Imports.{cell_same, chain_in, ends, false, fill_operation, first_copy, first_last, gives_back, gives_up, inl, inr, is_marked}
-use Rattle.law_jobs.proofs.Imports.{key_at, last_copy, live, marks, next_stage, of_read, operation, pending_on, progress_on, puts, putting, refl, subst, sym}
-use Rattle.law_jobs.proofs.Imports.{taking, tells, told, true, true_false, version_of, with_copied, with_mark_at, with_opened, with_page, with_pending}
-use Rattle.law_jobs.proofs.Imports.{with_progress, with_reserved, without_copying, without_pending, ℕ}
-use Rattle.law_jobs.specs.Effects.{A_copy, A_lead, A_new_copy, A_sweep, Alone_has, An_operation, As_copy, As_it_was}
-use Rattle.law_jobs.specs.Effects.{As_operation, As_second, Becomes, BecomesAt}
-use Rattle.law_jobs.specs.Effects.{Both_have, By_a_copy, By_its_operation, By_operation, Effect, For_a_fill, For_a_write, Found_no_slot, Goes_on, Had_no_slot}
-use Rattle.law_jobs.specs.Effects.{HasEnded, Has_put, Has_trimmed, Idle, IsApart, IsDroppedFor, IsFilledAs, IsNewCopy, IsNextPage, IsNotHeld, IsOpening}
-use Rattle.law_jobs.specs.Effects.{IsSetFor, IsToBegin, IsToPut, IsUnderWay, IsUnmarkedFor, Is_declined, Is_off, Is_old, Is_over, Is_retired, Is_whole, May}
-use Rattle.law_jobs.specs.Effects.{The_last_copy, Then, applied, ended_copy, entry_ahead}
+use Rattle.law_jobs.proofs.Imports.{cell_same, chain_in, ends, false, fill_operation, first_copy, first_last, gives_back, gives_up, inl, inr, is_marked, In}
+use Rattle.law_jobs.proofs.Imports.{List, Mark, among_least, idle_blocks, idle_from, in_filter, key_at, last_copy, live, mark_on, marks, next_idle, next_stage}
+use Rattle.law_jobs.proofs.Imports.{of_read, operation, origin_by, pending_on, progress_on, puts, putting, refl, subst, suc, sym, taking, tells, told, true}
+use Rattle.law_jobs.proofs.Imports.{true_false, unmark_all_on, unmarks_limit, version_of, with_copied, with_mark_at, with_opened, with_page, with_pending}
+use Rattle.law_jobs.proofs.Imports.{with_progress, with_reserved, without_copying, without_mark, without_pending, zero, ℕ}
+use Rattle.law_jobs.specs.Effects.{A_copy, A_lead, A_new_copy, A_sweep, Alone_has, An_operation, As_copy, As_it_was, As_operation, As_second, Becomes}
+use Rattle.law_jobs.specs.Effects.{BecomesAt, Both_have, By_a_copy, By_its_operation, By_operation, Effect, For_a_fill, For_a_write, Found_no_slot, Goes_on}
+use Rattle.law_jobs.specs.Effects.{Had_no_slot, HasEnded, Has_put, Has_trimmed, Idle, IsApart, IsDroppedFor, IsFilledAs, IsIdle, IsNewCopy, IsNextPage}
+use Rattle.law_jobs.specs.Effects.{IsNotHeld, IsOpening, IsSetFor, IsToBegin, IsToPut, IsUnderWay, IsUnmarkedFor, Is_declined, Is_off, Is_old, Is_over}
+use Rattle.law_jobs.specs.Effects.{Is_retired, Is_whole, May, The_last_copy, Then, applied, ended_copy, entry_ahead}
 use Rattle.law_jobs.proofs.MarksApart.{mark_there}
 use Rattle.busy_marks.specs.declared.marks.MarkKind.TheVariants as mark
 use Rattle.petal_msg.specs.declared.retired.Retired.TheVariants as retired
@@ -81,23 +81,25 @@ module _ (heard : Body → Type 0) (here : JobContext) (own : PairState) where
       → At op (with_pending (applied now (effect.Unmarks which op.cell)) (with_mark_at op which false))
   unmarks_to now op which there same so why =
       Then (with_pending now (with_mark_at op which false)) (effect.Unmarks which op.cell)
-      (Then now (effect.Sets (with_mark_at op which false)) so (flags now op which false there (λ e. true_false e refl), same) refl) why refl
+      (Then now (effect.Sets (with_mark_at op which false)) so (flags now op which false there (λ e. true_false e refl), same) refl) why (inl refl)
 
   opened_to : (op : Pending) → IsOpening heard here own op → At op (with_opened own op)
   opened_to op opening =
       Then (applied own (effect.Opens op)) (effect.Holds_slots (own.store.tickets + 1)) (Then own (effect.Opens op) As_it_was (opening, refl) refl) tt tt
 
-  puts_as_is : (op : Pending) → pending_on own op.cell ≡ Some op → IsToPut here op → (op.stage ≡ putting) ⊎ IsApart here op.cell → At op (puts own op).own
-  puts_as_is op is fresh why =
-      Then own (effect.Puts op.key (entry_ahead own op.cell op) (As_operation _)) As_it_was
-      (An_operation op op.stage.reserved op.stage.paired is fresh why, refl, (refl, inl refl)) refl
+  numbers_to : {now : PairState} (op : Pending) → At op now → At op (applied now (effect.Numbers op.key.map (origin_by here.state op)))
+  numbers_to op so = Then _ (effect.Numbers op.key.map (origin_by here.state op)) so tt tt
 
-  puts_taken : (now : PairState) (op : Pending) → Taken own now op → IsToPut here op → IsApart here op.cell → At op (puts now op).own
+  puts_as_is : (op : Pending) → pending_on own op.cell ≡ Some op → IsToPut here op → (op.stage ≡ putting) ⊎ IsApart here op.cell → At op (puts here own op).own
+  puts_as_is op is fresh why = numbers_to op (Then own (effect.Puts op.key (entry_ahead own op.cell op) (As_operation _)) As_it_was
+      (An_operation op op.stage.reserved op.stage.paired is fresh why, refl, (refl, inl refl)) refl)
+
+  puts_taken : (now : PairState) (op : Pending) → Taken own now op → IsToPut here op → IsApart here op.cell → At op (puts here now op).own
   puts_taken _ _ (As_it_is op is) fresh apart = puts_as_is op is fresh (inr apart)
   puts_taken _ _ (As_told op reserved paired is) fresh apart =
-      Then (with_pending own (told op reserved paired)) (effect.Puts op.key (entry_ahead own op.cell op) (As_operation _))
+      numbers_to op (Then (with_pending own (told op reserved paired)) (effect.Puts op.key (entry_ahead own op.cell op) (As_operation _))
       (taken_to _ _ (As_told op reserved paired is) apart)
-      (An_operation op reserved paired is fresh (inr apart), refl, (refl, inr apart)) refl
+      (An_operation op reserved paired is fresh (inr apart), refl, (refl, inr apart)) refl)
 
   drops_to : (now : PairState) (op : Pending) → Taken own now op → live here.state op.cell ≡ false → At op (gives_up now op)
   drops_to now op taken off =
@@ -171,10 +173,11 @@ module _ (heard : Body → Type 0) (here : JobContext) (own : PairState) where
       job_at (Then (applied own (effect.Holds_slots tickets)) (effect.Reserves cell number)
       (Then own (effect.Holds_slots tickets) As_it_was tt tt) (h, is, le) refl)
   second_to _ (Promises number cell how s is) = (None, tells_to cell number how)
-  second_to _ (Follows number key version bytes h is last) =
+  second_to _ (Follows number key version origin bytes h is last) =
       let next = version_of (chain_in own.store.chains (cell_of key)) + 1 in
-      job_at (Then own (effect.Puts key (record { version = next; bytes = bytes }) (As_second (record { op = number; progress = follow_progress.Replicated })))
-      As_it_was (A_lead number key version next bytes h is last refl, refl, refl) refl)
+      job_at {cell = Some (cell_of key)} (Then _ (effect.Numbers key.map origin)
+      (Then own (effect.Puts key (record { version = next; bytes = bytes }) (As_second (record { op = number; progress = follow_progress.Replicated })))
+      As_it_was (A_lead number key version next origin bytes h is last refl, refl, refl) refl) tt tt)
   second_to _ _ = (None, As_it_was)
 
   -- ### Copies
@@ -197,7 +200,7 @@ module _ (heard : Body → Type 0) (here : JobContext) (own : PairState) where
   copy_step_to : (now : PairState) (cell : Cell) (copy : Copying) (done : JobResult) → CopyStep here now cell copy done
       → IsUnderWay own now cell copy → To (Some cell) now → To (Some cell) done.own
   copy_step_to now cell copy _ (Unmarks_copied which synced left) there so =
-      Then now (effect.Unmarks which cell) so (By_a_copy which cell copy there synced) refl
+      Then now (effect.Unmarks which cell) so (By_a_copy which cell copy there synced) (inl refl)
   copy_step_to now cell copy _ (Closes_copy synced left) there so =
       Then _ (effect.Is_full false)
       (subst (To (Some cell)) (ended_as (cell_link here.state cell) now cell)
@@ -225,6 +228,23 @@ module _ (heard : Body → Type 0) (here : JobContext) (own : PairState) where
   page_to row None page = (None, Then own (effect.Turns_page row None) As_it_was (page, refl) tt)
   page_to row (Some block) page = job_at (Then own (effect.Turns_page row (Some block)) As_it_was (page, refl) refl)
 
+  abbrev with_marks : List Mark → PairState
+  with_marks marks = record own { store = record own.store { marks = marks } }
+
+  -- old marks go one after the other
+  module _ (row : LinkRow) (which : MarkKind) (idle : (block : ℕ) → In block (idle_blocks here.state row own which) → IsIdle here own (cell_at row block)) where
+    old_marks_to : (room : ℕ) (next : Option ℕ) → ((block : ℕ) → next ≡ Some block → In block (idle_blocks here.state row own which))
+        → (marks : List Mark) → To None (with_marks marks)
+        → To None (record own { store = unmark_all_on (with_marks marks).store which (idle_from here.state row own which room next) })
+    old_marks_to zero next among marks so = so
+    old_marks_to (suc room) None among marks so = so
+    old_marks_to (suc room) (Some block) among marks so =
+        let old = idle block (among block refl) in
+        old_marks_to room (next_idle here.state row own which (Some block))
+        (λ later e. (in_filter (above (Some block)) (idle_blocks here.state row own which) later (among_least _ later e)).0)
+        (without_mark marks (mark_on which (cell_at row block)))
+        (Then (with_marks marks) (effect.Unmarks which (cell_at row block)) so (Is_old which (cell_at row block) old refl) (inr old))
+
   holder_to : (done : JobResult) → DidHolder heard here own done → Job done
   holder_to _ (Turns_page id row other after block h held fresh at) =
       page_to row block (record { id = id; other = other; after = after; said = h; held = held; fresh = fresh; waited = at })
@@ -236,8 +256,12 @@ module _ (heard : Body → Type 0) (here : JobContext) (own : PairState) where
       job_at (Then (without_copying own cell) (effect.Is_full true)
       (Then own (effect.Ends_copy cell None) As_it_was (Found_no_slot copy (under_way cell own copy (Copy_as_is copy is)) trimmed lt) refl)
       (λ e. inl (record { cell = cell; copy = copy; said = h; copying = is; trimmed = trimmed; left = lt })) tt)
-  holder_to _ (Tidies id row block which is both idle left) =
-      job_at (Then own (effect.Unmarks which (cell_at row block)) As_it_was (Is_old which (cell_at row block) (Idle id row block is both idle) refl) refl)
+  holder_to _ (Tidies id row which cells is both e) = (
+    None,
+    subst (λ (cs : List Cell). To None (record own { store = unmark_all_on own.store which cs })) e
+        (old_marks_to row which (λ block i. Idle id row which block is both i) unmarks_limit (next_idle here.state row own which None)
+        (λ block least_is. (in_filter (above None) (idle_blocks here.state row own which) block (among_least _ block least_is)).0) own.store.marks As_it_was),
+  )
   holder_to _ _ = (None, As_it_was)
 
   trim_to : (now : PairState) (cell : Cell) (last : LastCopy) (holder : ℕ) (done : JobResult) → TrimStep now cell last holder done
@@ -274,7 +298,7 @@ module _ (heard : Body → Type 0) (here : JobContext) (own : PairState) where
 
   sweep_to : (done : JobResult) → DidSweep here own done → Job done
   sweep_to _ (Sweeps (retired.Key key) seated next off) = job_at (Then own (effect.Drops key) As_it_was (refl, refl, A_sweep key off) refl)
-  sweep_to _ (Sweeps (retired.Mark which cell) seated next off) = job_at (Then own (effect.Unmarks which cell) As_it_was (Is_off which cell off) refl)
+  sweep_to _ (Sweeps (retired.Mark which cell) seated next off) = job_at (Then own (effect.Unmarks which cell) As_it_was (Is_off which cell off) (inl refl))
 
   pub effects_of : (done : JobResult) → Did heard here own done → Job done
   effects_of _ Ignores = (None, As_it_was)

@@ -106,7 +106,7 @@ module _ (reads : Type 0) (heard : Body → Type 0) (here : JobContext) (own : P
       tells_said _ cell number follow_progress.Reserved so (cell_same own.pairs.last cell (record { op = number; progress = follow_progress.Reserved }))
   second_said _ (Promises number cell how so is) = tells_said own cell number how so is
   second_said _ (Declines number cell h follows found) = one _ _ _ (λ to so. says.Has_no_slot number cell to refl h follows found so)
-  second_said _ (Follows number key version bytes h so is) =
+  second_said _ (Follows number key version origin bytes h so is) =
       tells_said _ (cell_of key) number follow_progress.Replicated so
       (cell_same own.pairs.last (cell_of key) (record { op = number; progress = follow_progress.Replicated }))
 
@@ -130,7 +130,7 @@ module _ (reads : Type 0) (heard : Body → Type 0) (here : JobContext) (own : P
   reply_said : (to : Option ℕ) (said : Body) → OtherReply heard here own to said → AreSaid own (post_to to said)
   reply_said _ _ (Answers_page id row after h named) = one _ _ _ (λ to so. says.Tells_page id row after to refl h named so)
   reply_said _ _ (Has_entry entry holder last of_copy lt) = alone _ _ (says.Is_synced entry holder last last of_copy of_copy.last_is refl lt)
-  reply_said _ _ (Has_no_slot entry holder last of_copy spot full) = alone _ _ (says.Is_sync_full entry holder last refl of_copy spot full)
+  reply_said _ _ (Has_no_slot entry holder last of_copy spot full new) = alone _ _ (says.Is_sync_full entry holder last refl of_copy spot full new)
 
   other_said : (done : JobResult) → DidOther heard here own done → AreSaid done.own done.posts
   other_said _ (Replies to said reply) = reply_said to said reply

@@ -1,12 +1,12 @@
 -- Of what a job is made: effects, each on one place of a server's own part, with what was so when it was had.
 use Rattle.law_jobs.specs.Imports.{Block, Body, Both, Busy, Cell, Chain, Copying, Ending, Entry, Finished, Full, IsHeldWith, IsNew, IsNewFill, IsNextKey}
-use Rattle.law_jobs.specs.Imports.{IsOfCopy, IsSynced, JobContext, Key, LastCopy, LastOp, LinkId, LinkRow, MarkKind, Moving, PairState, Pending, Stage, Stale}
-use Rattle.law_jobs.specs.Imports.{Stored, Table, Taken, Wanted, Write, Written, at, begins_copy, cell_at, cell_cmp, cell_holder, cell_link, cell_of}
-use Rattle.law_jobs.specs.Imports.{chain_in, chains_with, copying, copying_on, epochs_beyond, fill_operation, first_last, free_of, idle_mark, in_both}
-use Rattle.law_jobs.specs.Imports.{is_alone_on, is_marked, is_second, key_at, last_copy, last_on, link_named, live, next_copy, operation, pending_on}
-use Rattle.law_jobs.specs.Imports.{progress, progress_on, put, putting, same_block, version_of, with_copied, with_copying, with_entry, with_filled, with_full}
-use Rattle.law_jobs.specs.Imports.{with_last, with_last_copy, with_mark_on, with_page, with_pending, without_copying, without_entry, without_mark_on}
-use Rattle.law_jobs.specs.Imports.{without_pending}
+use Rattle.law_jobs.specs.Imports.{IsOfCopy, IsSynced, JobContext, Key, LastCopy, LastOp, LinkId, LinkRow, MarkKind, Moving, Named, PairState, Pending, Stage}
+use Rattle.law_jobs.specs.Imports.{Stale, Stored, Table, Taken, Wanted, Write, Written, at, begins_copy, cell_at, cell_cmp, cell_holder, cell_link, cell_of}
+use Rattle.law_jobs.specs.Imports.{chain_in, chains_with, copying, copying_on, epochs_beyond, fill_operation, first_last, free_of, idle_blocks, in_both}
+use Rattle.law_jobs.specs.Imports.{is_alone_on, is_marked, is_second, key_at, last_copy, last_on, link_named, live, next_copy, operation, pending_on, progress}
+use Rattle.law_jobs.specs.Imports.{progress_on, put, putting, same_block, version_of, with_copied, with_copying, with_entry, with_filled, with_full, with_last}
+use Rattle.law_jobs.specs.Imports.{with_last_copy, with_mark_on, with_page, with_pending, with_row_of, without_copying, without_entry, without_mark_on}
+use Rattle.law_jobs.specs.Imports.{without_pending, In}
 use Rattle.std.specs.Prelude.{◌+◌, ◌<◌, ◌∷◌, ◌≡◌, ◌≤◌, ◌⊎◌, Bool, List, None, Option, Some, false, length, true, ℕ}
 use Rattle.std.specs.Ordering.{nat_cmp}
 use Rattle.petal_msg.specs.declared.body.Body.TheVariants as body
@@ -29,6 +29,8 @@ pub data Effect : Type 0 where
   Reserves : Cell → ℕ → Effect
   -- in a slot that was set apart
   Puts : Key → Stored → Noted → Effect
+  -- the row of a client's write has its number, where a put was for one
+  Numbers : (map : ℕ) → Option Named → Effect
   Drops : Key → Effect
   -- for the operation on the cell
   Marks : MarkKind → Cell → Effect
@@ -68,7 +70,7 @@ abbrev pub turned_page : LinkRow → PairState → Option ℕ → PairState
 turned_page row own block =
     let to = with_page own row (progress_on own row) block in
     record own {
-      store = record own.store { marks = to.store.marks; records = to.store.records };
+      store = record own.store { marks = to.store.marks };
       copies = record own.copies { progress = to.copies.progress };
     }
 
@@ -84,6 +86,7 @@ applied own (Puts key stored noted) = record own {
   pairs = record own.pairs { pending = pending_noted own.pairs.pending noted; last = last_noted own.pairs.last (cell_of key) noted };
   copies = record own.copies { last = copy_noted own.copies.last (cell_of key) noted };
 }
+applied own (Numbers map origin) = record own { store = with_row_of own.store map origin }
 applied own (Drops key) = record own { store = without_entry own.store key }
 applied own (Marks kind cell) = record own { store = with_mark_on own.store kind cell }
 applied own (Unmarks kind cell) = record own { store = without_mark_on own.store kind cell }
@@ -125,7 +128,7 @@ pub data IsPutFor (heard : Body → Type 0) (here : JobContext) (own : PairState
         version = version_of (chain_in own.store.chains op.cell) + 1;
         stage = record op.stage { reserved = reserved; paired = paired; put = true };
       }))
-  A_lead : (number : ℕ) (key : Key) (told version : ℕ) (bytes : List ℕ) → heard (body.Replicate number key told bytes)
+  A_lead : (number : ℕ) (key : Key) (told version : ℕ) (origin : Option Named) (bytes : List ℕ) → heard (body.Replicate number key told origin bytes)
       → is_second here.state here.me (cell_of key) ≡ true → last_on own (cell_of key) ≡ Some (record { op = number; progress = follow_progress.Reserved })
       → version ≡ version_of (chain_in own.store.chains (cell_of key)) + 1
       → IsPutFor heard here own key (record { version = version; bytes = bytes }) (As_second (record { op = number; progress = follow_progress.Replicated }))
@@ -263,15 +266,19 @@ pub record IsNextPage (heard : Body → Type 0) (here : JobContext) (own : PairS
 
 -- an old mark of the cell, on a link in Both, which nothing that is under way needs
 pub data IsIdle (here : JobContext) (own : PairState) : Cell → Type 0 where
-  Idle : (id : LinkId) (row : LinkRow) (block : ℕ) → link_named here.state id ≡ Some row → row.state ≡ Both
-      → idle_mark here.state row own ≡ Some block → IsIdle here own (cell_at row block)
+  Idle : (id : LinkId) (row : LinkRow) (kind : MarkKind) (block : ℕ) → link_named here.state id ≡ Some row → row.state ≡ Both
+      → In block (idle_blocks here.state row own kind) → IsIdle here own (cell_at row block)
+
+-- all is as the job began but for marks
+abbrev pub IsButForMarks : (own now : PairState) → Type 0
+IsButForMarks own now = now ≡ record own { store = record own.store { marks = now.store.marks } }
 
 -- why a mark goes: the operation on the cell has the stale one, nor the copy, of which all is put; it is an old one; or the cell is not live
 pub data IsUnmarkedFor (here : JobContext) (own now : PairState) : MarkKind → Cell → Type 0 where
   By_its_operation : (op : Pending) → pending_on now op.cell ≡ Some op → op.stage.busy ≡ false → op.stage.stale ≡ true → IsUnmarkedFor here own now Busy op.cell
   By_a_copy : (kind : MarkKind) (cell : Cell) (copy : Copying) → IsUnderWay own now cell copy → IsSynced now cell copy
       → IsUnmarkedFor here own now kind cell
-  Is_old : (kind : MarkKind) (cell : Cell) → IsIdle here own cell → now ≡ own → IsUnmarkedFor here own now kind cell
+  Is_old : (kind : MarkKind) (cell : Cell) → IsIdle here own cell → IsButForMarks own now → IsUnmarkedFor here own now kind cell
   Is_off : (kind : MarkKind) (cell : Cell) → live here.state cell ≡ false → IsUnmarkedFor here own now kind cell
 
 -- what was so when a server did it that handled only such letters as `heard` knows: by its own part as the job began, `own`, and as it is
@@ -298,28 +305,37 @@ May heard here own now (Is_full full) = full ≡ true → HearsNone heard here o
 May heard here own now (Fills row key) = IsFilledAs heard here own row key × (now.filled ≡ own.filled)
 May heard here own now _ = Unit {0}
 
--- the cell that an effect is on, where it is on one
-abbrev pub IsOn : Option Cell → Effect → Type 0
-IsOn at (Opens op) = at ≡ Some op.cell
-IsOn at (Sets op) = at ≡ Some op.cell
-IsOn at (Closes cell) = at ≡ Some cell
-IsOn at (Reserves cell number) = at ≡ Some cell
-IsOn at (Puts key stored (As_operation op)) = at ≡ Some op.cell
-IsOn at (Puts key stored noted) = at ≡ Some (cell_of key)
-IsOn at (Drops key) = at ≡ Some (cell_of key)
-IsOn at (Marks kind cell) = at ≡ Some cell
-IsOn at (Unmarks kind cell) = at ≡ Some cell
-IsOn at (Begins_copy cell) = at ≡ Some cell
-IsOn at (Copies cell copy) = at ≡ Some cell
-IsOn at (Ends_copy cell row) = at ≡ Some cell
-IsOn at (Is_copied cell number epochs) = at ≡ Some cell
-IsOn at (Turns_page row (Some block)) = at ≡ Some (cell_at row block)
-IsOn at _ = Unit {0}
+-- the cell that an effect is on, if it is on one
+abbrev pub cell_on : Effect → Option Cell
+cell_on (Opens op) = Some op.cell
+cell_on (Sets op) = Some op.cell
+cell_on (Closes cell) = Some cell
+cell_on (Reserves cell number) = Some cell
+cell_on (Puts key stored (As_operation op)) = Some op.cell
+cell_on (Puts key stored _) = Some (cell_of key)
+cell_on (Drops key) = Some (cell_of key)
+cell_on (Marks kind cell) = Some cell
+cell_on (Unmarks kind cell) = Some cell
+cell_on (Begins_copy cell) = Some cell
+cell_on (Copies cell copy) = Some cell
+cell_on (Ends_copy cell row) = Some cell
+cell_on (Is_copied cell number epochs) = Some cell
+cell_on (Turns_page row (Some block)) = Some (cell_at row block)
+cell_on _ = None
 
--- what a server's own part may become by effects, one after the other, in a job that works on this cell or none
+abbrev pub IsOnCell : (at on : Option Cell) → Type 0
+IsOnCell at None = Unit {0}
+IsOnCell at (Some cell) = at ≡ Some cell
+
+-- a job that works on this cell or none may have an effect that is on that cell or none; but old marks it takes away of many cells
+abbrev pub IsOn : (here : JobContext) (own : PairState) (at : Option Cell) → Effect → Type 0
+IsOn here own at (Unmarks kind cell) = (at ≡ Some cell) ⊎ IsIdle here own cell
+IsOn here own at effect = IsOnCell at (cell_on effect)
+
+-- what a server's own part may become by effects, one after the other, in a job that works on this cell or none, old marks aside
 pub data BecomesAt (heard : Body → Type 0) (here : JobContext) (own : PairState) (cell : Option Cell) : PairState → Type 0 where
   As_it_was : BecomesAt heard here own cell own
-  Then : (now : PairState) (effect : Effect) → BecomesAt heard here own cell now → May heard here own now effect → IsOn cell effect
+  Then : (now : PairState) (effect : Effect) → BecomesAt heard here own cell now → May heard here own now effect → IsOn here own cell effect
       → BecomesAt heard here own cell (applied now effect)
 
 abbrev pub Becomes : (heard : Body → Type 0) → JobContext → (own now : PairState) → Type 0

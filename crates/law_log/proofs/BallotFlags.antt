@@ -1,8 +1,7 @@
 -- For which links a server has started a ballot for the Caught, when how far it is with one of them changes.
 use Rattle.law_log.proofs.Imports.{◌∙◌, ◌≡◌, Equal, Equal-is, IsTotalOrder, LinkId, LinkRow, None, Option, PairState, Progress, Some, ap, at, at-put}
 use Rattle.law_log.proofs.Imports.{both_true, by_bool, cond, eq_by_cmp, false, id_of, is_eq, is_flagged, link_cmp, nat_cmp, nat_cmp_total, no_progress}
-use Rattle.law_log.proofs.Imports.{on_total, option_map_or, progress_on, ranked, refl, sym, then_total, tied_itself, tied_then, true, unwrap_or}
-use Rattle.law_log.proofs.Imports.{with_progress}
+use Rattle.law_log.proofs.Imports.{on_total, option_map_or, progress_on, ranked, refl, sym, then_total, tied_itself, tied_then, true, unwrap_or, with_progress}
 
 -- names stand in a line
 pub link_cmp_total : IsTotalOrder link_cmp

@@ -1,14 +1,14 @@
 -- Jobs of copies: they say nothing of the log, put no letter into the queue, and forget no Caught for which a ballot was started.
 use Rattle.law_log.proofs.Imports.{[], ◌&&◌, ◌==◌, ◌∷◌, ◌≡◌, Among, Ask, Block, Bool, Both, Cell, CopyAction, Copying, Entry, JobContext, LastCopy, Letter}
 use Rattle.law_log.proofs.Imports.{LinkId, LinkRow, LinkState, List, Lost, NextCopy, None, Only, Option, PairState, Post, Some, State, Wait, above}
-use Rattle.law_log.proofs.Imports.{answers_page, begins_copy, by_test, catches_up, cell_at, cell_holder, cell_link, cell_of, clears_old_marks, closes}
-use Rattle.law_log.proofs.Imports.{copies_on, copies_with, copy_acts, copy_awaited, copy_posts, copy_stage, copying_on, false, flat_map, goes_for}
-use Rattle.law_log.proofs.Imports.{hears_entry, hears_hello, hears_page, hears_sync, hears_sync_full, hears_synced, hears_trim, hears_trim_of, hears_trimmed}
-use Rattle.law_log.proofs.Imports.{idle_mark, in-append, inl, inr, is_syncing, last_copy, link_named, mends_found, nat_lt, next_copy, not, on_hello}
-use Rattle.law_log.proofs.Imports.{on_hello_ask, on_sync, on_sync_full, on_synced, on_trim, on_trimmed, other_in, page_asked, page_for, page_posts}
-use Rattle.law_log.proofs.Imports.{page_wanted, progress_on, puts_entry, refl, repair_after, repairs, repairs_row, same_block, sends_entry, takes_mark}
-use Rattle.law_log.proofs.Imports.{trims_again, trims_first, trims_for, trims_newly, trims_on, true, with_copied, with_last_copy, with_page, with_progress}
-use Rattle.law_log.proofs.Imports.{without_copying, ℕ}
+use Rattle.law_log.proofs.Imports.{answers_page, begins_copy, by_test, catches_up, cell_holder, cell_link, cell_of, clears_old_marks, closes, copies_on}
+use Rattle.law_log.proofs.Imports.{copies_with, copy_acts, copy_awaited, copy_posts, copy_stage, copying_on, false, flat_map, goes_for, hears_entry}
+use Rattle.law_log.proofs.Imports.{hears_hello, hears_page, hears_sync, hears_sync_full, hears_synced, hears_trim, hears_trim_of, hears_trimmed, idle_cells}
+use Rattle.law_log.proofs.Imports.{in-append, inl, inr, is_syncing, last_copy, link_named, mends_found, nat_lt, next_copy, not, on_hello, on_hello_ask}
+use Rattle.law_log.proofs.Imports.{on_sync, on_sync_full, on_synced, on_trim, on_trimmed, other_in, page_asked, page_for, page_posts, page_wanted, progress_on}
+use Rattle.law_log.proofs.Imports.{puts_entry, refl, repair_after, repairs, repairs_row, same_block, sends_entry, takes_marks, trims_again, trims_first}
+use Rattle.law_log.proofs.Imports.{trims_for, trims_newly, trims_on, true, with_copied, with_last_copy, with_page, with_progress, without_copying, ℕ}
+use Rattle.busy_marks.specs.declared.marks.MarkKind.TheVariants.{Busy, Stale}
 use Rattle.petal_msg.specs.declared.copying.NextCopy.TheVariants.{Nothing}
 use Rattle.law_log.proofs.BallotFlags.{flags_put}
 use Rattle.law_log.proofs.PairJobsLeaveLog.{IsDated, posted_dated, IsCalm, IsKept, calm_says, calm_silent, calm_stage, kept_itself}
@@ -73,16 +73,16 @@ calm_catches : (here : JobContext) (own : PairState) (row : LinkRow) (other : Op
 calm_catches here own row None = calm_silent own
 calm_catches here own row (Some other) = calm_goes here own row other (next_copy here.state row own)
 
-calm_takes_mark : (own : PairState) (row : LinkRow) (cell : Cell) (kind : _) → IsCalm own (takes_mark own row cell kind)
-calm_takes_mark own row cell None = calm_silent own
-calm_takes_mark own row cell (Some kind) = calm_mend own _ _ (record { flags = λ id h. h })
+calm_takes : (own : PairState) (row : LinkRow) (kind : _) (cells : List Cell) → IsCalm own (takes_marks own row kind cells)
+calm_takes own row kind [] = calm_silent own
+calm_takes own row kind (cell ∷ cells) = calm_mend own _ _ (record { flags = λ id h. h })
 
-calm_tidies : (own : PairState) (row : LinkRow) (block : Option ℕ) → IsCalm own (clears_old_marks own row block)
-calm_tidies own row None = calm_silent own
-calm_tidies own row (Some block) = calm_takes_mark own row (cell_at row block) _
+calm_tidies : (state : State) (own : PairState) (row : LinkRow) (busy : List Cell) → IsCalm own (clears_old_marks state own row busy)
+calm_tidies state own row [] = calm_takes own row Stale (idle_cells state row own Stale)
+calm_tidies state own row (cell ∷ cells) = calm_takes own row Busy (cell ∷ cells)
 
 calm_row : (here : JobContext) (own : PairState) (row : LinkRow) (state : LinkState) → IsCalm own (repairs_row here own row state)
-calm_row here own row Both = calm_tidies own row (idle_mark here.state row own)
+calm_row here own row Both = calm_tidies here.state own row (idle_cells here.state row own Busy)
 calm_row here own row (Only holder whole) = calm_catches here own row (other_in here.state here.me row)
 calm_row here own row Lost = calm_silent own
 

@@ -39,6 +39,8 @@ pub use Rattle.law_state.specs.Plain.{HasProperTuple, HasProperTuples}
 pub use Rattle.law_state.specs.StartedBallots.{HasFlag, is_caught, is_flagged}
 pub use Rattle.law_state.specs.Tables.{IsSettledState}
 pub use Rattle.petal_base.specs.Cells.{cell_of, key_at}
+pub use Rattle.petal_base.specs.Limits.{client_limit}
+pub use Rattle.petal_base.specs.Origins.{Named}
 pub use Rattle.petal_base.specs.declared.cell.Key.{Key}
 pub use Rattle.petal_command.specs.Same.{has_command, same_command}
 pub use Rattle.petal_msg.specs.Kinds.{about, is_logged, subject_of}
@@ -93,8 +95,8 @@ pub use Rattle.spec_rules.specs.Clients.{with_sight, witness_where, witnessed, w
 unfoldable pub use Rattle.spec_rules.specs.Clients.{heard, refusal, ticked}
 pub use Rattle.spec_rules.specs.Copies.{Entry, answers_page, begins_copy, catches_up, cell_at, cell_holder, clears_old_marks, closes, copies_with, copy_acts}
 pub use Rattle.spec_rules.specs.Copies.{copy_awaited, copy_posts, copy_stage, goes_for, hears_entry, hears_hello, hears_page, hears_sync, hears_sync_full}
-pub use Rattle.spec_rules.specs.Copies.{hears_synced, hears_trim, hears_trim_of, hears_trimmed, idle_mark, is_syncing, mends_found, page_asked, page_for}
-pub use Rattle.spec_rules.specs.Copies.{page_posts, page_wanted, puts_entry, repair_after, repair_jobs, repairs_row, same_block, sends_entry, takes_mark}
+pub use Rattle.spec_rules.specs.Copies.{hears_synced, hears_trim, hears_trim_of, hears_trimmed, idle_cells, is_syncing, mends_found, page_asked, page_for}
+pub use Rattle.spec_rules.specs.Copies.{page_posts, page_wanted, puts_entry, repair_after, repair_jobs, repairs_row, same_block, sends_entry, takes_marks}
 pub use Rattle.spec_rules.specs.Copies.{trims_again, trims_first, trims_for, trims_newly, waits_for_job, with_copied, with_page}
 unfoldable pub use Rattle.spec_rules.specs.Copies.{copies_on, next_copy, on_hello, on_hello_ask, on_sync, on_sync_full, on_synced, on_trim, on_trimmed}
 unfoldable pub use Rattle.spec_rules.specs.Copies.{repairs, trims_on}
@@ -107,8 +109,8 @@ pub use Rattle.spec_rules.specs.Fills.{hears_filled, is_next, link_before, moved
 pub use Rattle.spec_rules.specs.Fills.{with_filled}
 unfoldable pub use Rattle.spec_rules.specs.Fills.{on_fill, on_fill_full, on_filled}
 pub use Rattle.spec_rules.specs.Jobs.{Acted, asked_by, at_other_rev, awaited, copies_again, crossing, delivered, down_posts, entered, faults, glance_sender}
-pub use Rattle.spec_rules.specs.Jobs.{glances, here_of, is_from_in, is_log_job, is_overfull, job_done, on_letter, own_wants, sent_again, stages, starting}
-pub use Rattle.spec_rules.specs.Jobs.{stops, tick_jobs, tick_posts, ticks, voter_of, wanted_by, worked, works, wrong_rev}
+pub use Rattle.spec_rules.specs.Jobs.{glances, has_full_log, here_of, is_from_in, is_log_job, is_overfull, job_done, on_letter, own_wants, sent_again, stages}
+pub use Rattle.spec_rules.specs.Jobs.{starting, stops, tick_jobs, tick_posts, ticks, voter_of, wanted_by, worked, works, wrong_rev}
 unfoldable pub use Rattle.spec_rules.specs.Jobs.{does, handles, hears_log, log_does}
 unfoldable pub use Rattle.spec_rules.specs.Lists.{In as Among, put_at}
 pub use Rattle.spec_rules.specs.Log.{Log, LogDone, Voter, commits, keeps, known, next_place, rev_of, state_in, with_phase}

@@ -1,14 +1,14 @@
 -- Operations of the pairs say nothing of the log, put no letter into the queue, and leave all copies as they are; neither does what a tick sends
 -- for them say anything of the log.
 use Rattle.law_log.proofs.Imports.{[], ◌&&◌, ◌==◌, ◌∷◌, ◌≡◌, Action, Actor, Again, Among, Body, Bool, Cell, Command, Ending, FollowProgress, JobContext}
-use Rattle.law_log.proofs.Imports.{JobResult, Key, LastOp, Letter, LinkId, List, Newer, None, Older, OpKind, Option, PairState, Pax, Pending, Post, Progress}
-use Rattle.law_log.proofs.Imports.{Reply, Some, Standing, Table, Wanted, World, about, at, awaited, by_test, cell_of, ended, ends, false, finishes, flat_map}
-use Rattle.law_log.proofs.Imports.{follows_once, gives_back, gives_up, goes_on, goes_on_with, hears_pair_full, hears_replicate, hears_replicated}
-use Rattle.law_log.proofs.Imports.{hears_reserve, hears_reserved, in-append, inl, inr, is_kept_back, is_lead, is_logged, is_pending_for, is_replicating}
-use Rattle.law_log.proofs.Imports.{is_reserving, is_second, is_under_way, last_on, link_cmp, moved_as, nat_lt, not, on_pair_full, on_read, on_replicate}
-use Rattle.law_log.proofs.Imports.{on_replicated, on_reserve, on_reserved, on_write, only, opened, opens, option_map_or, pending_on, post_to, readable, refl}
-use Rattle.law_log.proofs.Imports.{reply_to, reserves, said, says, says_to, sent_again, silent, subject_of, takes, takes_newer, tells, true, true≢false}
-use Rattle.law_log.proofs.Imports.{without_pending, ℕ}
+use Rattle.law_log.proofs.Imports.{JobResult, Key, LastOp, Letter, LinkId, List, Named, Newer, None, Older, OpKind, Option, PairState, Pax, Pending, Post}
+use Rattle.law_log.proofs.Imports.{Progress, Reply, Some, Standing, Table, Wanted, World, about, at, awaited, by_test, cell_of, client_limit, ended, ends}
+use Rattle.law_log.proofs.Imports.{false, finishes, flat_map, follows_once, gives_back, gives_up, goes_on, goes_on_with, hears_pair_full, hears_replicate}
+use Rattle.law_log.proofs.Imports.{hears_replicated, hears_reserve, hears_reserved, in-append, inl, inr, is_kept_back, is_lead, is_logged, is_pending_for}
+use Rattle.law_log.proofs.Imports.{is_replicating, is_reserving, is_second, is_under_way, last_on, link_cmp, moved_as, nat_lt, not, on_pair_full, on_read}
+use Rattle.law_log.proofs.Imports.{on_replicate, on_replicated, on_reserve, on_reserved, on_write, only, opened, opens, option_map_or, pending_on, post_to}
+use Rattle.law_log.proofs.Imports.{readable, refl, reply_to, reserves, said, says, says_to, sent_again, silent, subject_of, takes, takes_newer, tells, true}
+use Rattle.law_log.proofs.Imports.{true≢false, without_pending, ℕ}
 use Rattle.spec_rules.specs.Writes.{acts}
 use Rattle.law_log.specs.AgreedLog.{IsBacked}
 use Rattle.law_log.proofs.ScheduleTurns.{no_posts, no_letter}
@@ -159,7 +159,7 @@ pair_takes here own want Newer =
 pub pair_write : (here : JobContext) (own : PairState) (want : Wanted) → IsCalm own (on_write here own want)
 unfolding on_write
 pair_write here own want =
-    by_test (IsCalm own) (is_lead here.state here.me want.cell) _ _ (λ e. pair_takes here own want _) (λ e. calm_silent own)
+    by_test (IsCalm own) (is_lead here.state here.me want.cell && nat_lt want.client client_limit) _ _ (λ e. pair_takes here own want _) (λ e. calm_silent own)
 
 -- where an operation is pending, or none
 pair_found : (own : PairState) (what : Option Pending → JobResult) → IsCalm own (what None)
@@ -204,22 +204,23 @@ unfolding on_reserve
 pair_reserve here own number cell =
     by_test (IsCalm own) (is_second here.state here.me cell) _ _ (λ e. pair_hears_reserve here own cell number (last_on own cell)) (λ e. calm_silent own)
 
-pair_once : (here : JobContext) (own : PairState) (number : ℕ) (key : Key) (bytes : List ℕ) (how : FollowProgress)
-    → IsCalm own (follows_once here own number key bytes how)
-pair_once here own number key bytes follow_progress.Reserved = pair_tells here _ (cell_of key) number follow_progress.Replicated
-pair_once here own number key bytes follow_progress.Replicated = pair_tells here own (cell_of key) number follow_progress.Replicated
+pair_once : (here : JobContext) (own : PairState) (number : ℕ) (key : Key) (origin : Option Named) (bytes : List ℕ) (how : FollowProgress)
+    → IsCalm own (follows_once here own number key origin bytes how)
+pair_once here own number key origin bytes follow_progress.Reserved = pair_tells here _ (cell_of key) number follow_progress.Replicated
+pair_once here own number key origin bytes follow_progress.Replicated = pair_tells here own (cell_of key) number follow_progress.Replicated
 
-pair_hears_replicate : (here : JobContext) (own : PairState) (number : ℕ) (key : Key) (bytes : List ℕ) (o : Option LastOp)
-    → IsCalm own (hears_replicate here own number key bytes o)
-pair_hears_replicate here own number key bytes None = calm_silent own
-pair_hears_replicate here own number key bytes (Some last) =
-    by_test (IsCalm own) (number == last.op) _ _ (λ e. pair_once here own number key bytes last.progress) (λ e. calm_silent own)
+pair_hears_replicate : (here : JobContext) (own : PairState) (number : ℕ) (key : Key) (origin : Option Named) (bytes : List ℕ) (o : Option LastOp)
+    → IsCalm own (hears_replicate here own number key origin bytes o)
+pair_hears_replicate here own number key origin bytes None = calm_silent own
+pair_hears_replicate here own number key origin bytes (Some last) =
+    by_test (IsCalm own) (number == last.op) _ _ (λ e. pair_once here own number key origin bytes last.progress) (λ e. calm_silent own)
 
-pub pair_replicate : (here : JobContext) (own : PairState) (number : ℕ) (key : Key) (bytes : List ℕ) → IsCalm own (on_replicate here own number key bytes)
+pub pair_replicate : (here : JobContext) (own : PairState) (number : ℕ) (key : Key) (origin : Option Named) (bytes : List ℕ)
+    → IsCalm own (on_replicate here own number key origin bytes)
 unfolding on_replicate
-pair_replicate here own number key bytes =
-    by_test (IsCalm own) (is_second here.state here.me (cell_of key)) _ _ (λ e. pair_hears_replicate here own number key bytes (last_on own (cell_of key)))
-    (λ e. calm_silent own)
+pair_replicate here own number key origin bytes =
+    by_test (IsCalm own) (is_second here.state here.me (cell_of key)) _ _
+    (λ e. pair_hears_replicate here own number key origin bytes (last_on own (cell_of key))) (λ e. calm_silent own)
 
 -- ### A tick
 

@@ -21,8 +21,8 @@ calm_handles here own (body.Write client seq cell epoch bytes) = pair_write here
 calm_handles here own (body.Reserve number cell) = pair_reserve here own number cell
 calm_handles here own (body.Reserved number cell) = pair_reserved here own number cell
 calm_handles here own (body.PairFull number cell) = pair_pair_full here own number cell
-calm_handles here own (body.Replicate number key version bytes) =
-    pair_replicate here own number key bytes
+calm_handles here own (body.Replicate number key version origin bytes) =
+    pair_replicate here own number key origin bytes
 calm_handles here own (body.Replicated number cell) = pair_replicated here own number cell
 calm_handles here own (body.HelloAsk map link after) = calm_hello_ask here own _ after
 calm_handles here own (body.Hello map link after block) = calm_hello here own _ after block

@@ -4,11 +4,11 @@ use Rattle.law_log.proofs.Imports.{Command, CommitEnd, Deliver, Glance, HasFlag,
 use Rattle.law_log.proofs.Imports.{LinkId, List, LogDone, MayServer, None, Option, PairState, Phase, Sender, Server, Setting, Some, Step, Stop, StopIn, Tick}
 use Rattle.law_log.proofs.Imports.{Work, WorkEnd, acts, ap, applies, applies_known, arith, ask_posts, awake, ballot_posts, blanked, boots, by_test}
 use Rattle.law_log.proofs.Imports.{copies_again, crossed_by, crossing, delivered, does, down_posts, entered, false, faults, filter, first_wanted, flat_map}
-use Rattle.law_log.proofs.Imports.{glance_sender, glances, in-append, inc_committed, inc_of, inl, inr, is_log_job, is_overfull, job_done, jobs_by, known}
-use Rattle.law_log.proofs.Imports.{length, letters_of, log_does, next_place, not, only, own_wants, proposed, put_apart, put_at, put_same, raised}
-use Rattle.law_log.proofs.Imports.{range_with_len, refl, rev_of, same_or_apart, sender, sent, sent_again, server_state, server_step, servers_of, starting}
-use Rattle.law_log.proofs.Imports.{starts, stays, stopped, stops, subst, sym, tick_jobs, tick_posts, ticks, true, voter_of, wakes, wanted, wanted_by, worked}
-use Rattle.law_log.proofs.Imports.{works, ℕ}
+use Rattle.law_log.proofs.Imports.{glance_sender, glances, has_full_log, in-append, inc_committed, inc_of, inl, inr, is_log_job, is_overfull, job_done}
+use Rattle.law_log.proofs.Imports.{jobs_by, known, length, letters_of, log_does, next_place, not, only, own_wants, proposed, put_apart, put_at, put_same}
+use Rattle.law_log.proofs.Imports.{raised, range_with_len, refl, rev_of, same_or_apart, sender, sent, sent_again, server_state, server_step, servers_of}
+use Rattle.law_log.proofs.Imports.{starting, starts, stays, stopped, stops, subst, sym, tick_jobs, tick_posts, ticks, true, voter_of, wakes, wanted}
+use Rattle.law_log.proofs.Imports.{wanted_by, worked, works, ℕ}
 use Rattle.spec_rules.specs.Posts.{Post}
 use Rattle.spec_rules.specs.World.{World}
 use Rattle.law_log.specs.AgreedLog.{IsBacked, IsBusyAs, IsCalledAnywhere, IsSaidBy, IsSeenAt, Logged, Minded}
@@ -473,10 +473,10 @@ module _ (it : ServerStep) where
     })
 
     boots_on : (end : WorkEnd) → GoesBy (boots here (w.servers n) end)
-    boots_on work_end.Done = by_test GoesBy (is_overfull (raised (w.servers n))) _ _ (λ full. rests_on) (λ room. wakes_on)
+    boots_on work_end.Done = by_test GoesBy (has_full_log (raised (w.servers n))) _ _ (λ full. rests_on) (λ room. wakes_on)
     boots_on (work_end.Fault Before) = rests_on
     boots_on (work_end.Fault After) =
-        by_test (λ (to : Server). GoesBy (stays to)) (is_overfull (raised (w.servers n))) _ _ (λ full. rests_on) (λ room. fails_on)
+        by_test (λ (to : Server). GoesBy (stays to)) (has_full_log (raised (w.servers n))) _ _ (λ full. rests_on) (λ room. fails_on)
 
 pub server_steps : {Was : Minded} {setting : Setting} (fair : IsFair setting) (w : World) (l : Logged Was setting w) (n stamp : ℕ)
     (member : n < setting.servers) (what : Step)

@@ -8,8 +8,7 @@ pub use Rattle.law_steps.specs.Imports.{Actor, Answer, Asked, Blank, Body, Boot,
 pub use Rattle.law_steps.proofs.Imports.{AreSteps, AreStepsFrom, Arm, Call, Deliver, Follows, Glance, MayActor, MayClient, MayServer, Script, Stop, StopIn}
 pub use Rattle.law_steps.proofs.Imports.{Tick, client_state, client_step, put_apart, put_same, setting_of, start, steps_begin, world_after}
 unfoldable pub use Rattle.law_steps.proofs.Imports.{put_at, step}
-pub use Rattle.law_merge.specs.Imports.{Armed, ComeTo, Deed, Errand, IsAnswered, Obeys, ObeysAs, errand_after, errand_of, no_errand, operator, served}
-pub use Rattle.law_merge.specs.Imports.{unarmed}
+pub use Rattle.law_merge.specs.Imports.{Armed, ComeTo, Deed, Errand, IsAnswered, Obeys, ObeysAs, errand_after, errand_of, no_errand, operator, served, unarmed}
 pub use Rattle.std.proofs.lemmas.Bool.{cases_lt}
 pub use Rattle.law_copies.proofs.ChainsRise.{in_kept}
 pub use Rattle.law_state.proofs.ListLookups.{get_in}

@@ -1,8 +1,7 @@
 -- The names that this crate takes from others, in one place.
 pub use Rattle.law_state.specs.Imports.{Record, Server, Setting, World, state_after}
 unfoldable pub use Rattle.law_state.specs.Imports.{In}
-pub use Rattle.law_steps.specs.Imports.{Acted, Actor, Asked, Blank, Boot, Client, Letter, Line, Reaction, Step, Work, letters_of, lines_of, next_line}
-pub use Rattle.law_steps.specs.Imports.{stepped}
+pub use Rattle.law_steps.specs.Imports.{Acted, Actor, Asked, Blank, Boot, Client, Letter, Line, Reaction, Step, Work, letters_of, lines_of, next_line, stepped}
 pub use Rattle.script_lines.specs.Requests.{names}
 pub use Rattle.script_lines.specs.declared.script.Script.{Script}
 pub use Rattle.spec_history.specs.Controls.{Errand, Obeys, ObeysAs, errand_after, errand_of, no_errand, served}

@@ -33,12 +33,12 @@ module _ (heard : Body → Type 0) (here : JobContext) (own new : PairState) whe
 
   abbrev pub Said : Body → Type 0
   Said (body.Filled key) = HasFilled key
-  Said (body.Replicate number key version bytes) = AsksCopy key
+  Said (body.Replicate number key version origin bytes) = AsksCopy key
   Said _ = Unit {0}
 
   other_said : (said : Body) → is_told (subject_of said) ≡ false → Said said
   other_said (body.Filled key) e = true_false refl e
-  other_said (body.Replicate number key version bytes) e = true_false refl e
+  other_said (body.Replicate number key version origin bytes) e = true_false refl e
   other_said _ e = tt
 
   ended_said : (seq : ℕ) (how : Ending) → Said (ended seq how)

@@ -11,10 +11,10 @@ pub use Rattle.law_state.proofs.Imports.{length-append, link_of, links_of, map, 
 pub use Rattle.law_state.proofs.Imports.{option_map_or, range_with_len, refl, row_authority, row_lead, same_numbers, same_or_apart, same_some, second}
 pub use Rattle.law_state.proofs.Imports.{some_or_none, subst, sym, touches, true, true_false, unwrap_or, ℕ}
 pub use Rattle.law_log.proofs.Imports.{◌||◌, Acted, AreSteps, Body, Copying, Ending, Entry, Equal, Firm, HasProperTuples, IsSound, JobContext, JobResult, Key}
-pub use Rattle.law_log.proofs.Imports.{LastCopy, Letter, Log, Moving, Pending, Post, Script, Step, Stored, Table, about, all_put, awake, blanked, cell_holder}
-pub use Rattle.law_log.proofs.Imports.{cell_of, chain_in, copying_on, devices, ended, eq_by_cmp, fill_of, flat_map, has_proposed, holds_link, id_of, is_eq}
-pub use Rattle.law_log.proofs.Imports.{is_flagged, is_logged, is_second, key_at, last_copy, last_on, less_test, link_named, log_plain, nat_cmp, pending_on}
-pub use Rattle.law_log.proofs.Imports.{proposed, put_apart, put_same, raised, ranked, region_to_move, server_state, setting_of, start, subject_of}
+pub use Rattle.law_log.proofs.Imports.{LastCopy, Letter, Log, Moving, Named, Pending, Post, Script, Step, Stored, Table, about, all_put, awake, blanked}
+pub use Rattle.law_log.proofs.Imports.{cell_holder, cell_of, chain_in, copying_on, devices, ended, eq_by_cmp, fill_of, flat_map, has_proposed, holds_link}
+pub use Rattle.law_log.proofs.Imports.{id_of, is_eq, is_flagged, is_logged, is_second, key_at, last_copy, last_on, less_test, link_named, log_plain, nat_cmp}
+pub use Rattle.law_log.proofs.Imports.{pending_on, proposed, put_apart, put_same, raised, ranked, region_to_move, server_state, setting_of, start, subject_of}
 pub use Rattle.law_log.proofs.Imports.{touches_cell, who_is_in}
 unfoldable pub use Rattle.law_log.proofs.Imports.{put_at}
 pub use Rattle.law_steps.specs.Imports.{IsBelow, Paired, Stage, StaysSo, Subject, cell_cmp, coming, crossed, epochs_beyond, live, stage_at, without_entry}

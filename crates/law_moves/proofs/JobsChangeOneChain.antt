@@ -1,11 +1,11 @@
 -- A job changes at most one chain: that of an operation that is pending here, of one whose lead asked to follow, or of a cell whose
 -- link the other server holds alone, and copies to this one.
 use Rattle.law_moves.proofs.Imports.{[], ◌+◌, ◌<◌, ◌∙◌, ◌∷◌, ◌≡◌, ◌≢◌, ◌≤◌, A_lead, A_new_copy, A_sweep, An_operation, As_it_is, Body, Cell, Chain, Did}
-use Rattle.law_moves.proofs.Imports.{Effect, Entry, IsDroppedFor, IsPutFor, IsSeatedOrMute, JobContext, JobResult, Key, LastCopy, List, May, Noted, PairState}
-use Rattle.law_moves.proofs.Imports.{Pending, Puts, Some, Store, Stored, Table, Taken, The_last_copy, ap, applied, arith, at, at_same, by_bool, cell_holder}
-use Rattle.law_moves.proofs.Imports.{cell_of, chain_apart, chain_in, chain_put, chains_ahead, chains_with, cond, drop_apart, drop_none, entry_ahead}
-use Rattle.law_moves.proofs.Imports.{epochs_beyond, false, inl, inr, is_eq, is_in, is_second, job_keeps, key_at, last_copy, last_on, live, lookup, max}
-use Rattle.law_moves.proofs.Imports.{nat_cmp, none_some, pending_on, put, refl, same_some, subst, sym, true, version_of, without_entry, ℕ}
+use Rattle.law_moves.proofs.Imports.{Effect, Entry, IsDroppedFor, IsPutFor, IsSeatedOrMute, JobContext, JobResult, Key, LastCopy, List, May, Named, Noted}
+use Rattle.law_moves.proofs.Imports.{Option, PairState, Pending, Puts, Some, Store, Stored, Table, Taken, The_last_copy, ap, applied, arith, at, at_same}
+use Rattle.law_moves.proofs.Imports.{by_bool, cell_holder, cell_of, chain_apart, chain_in, chain_put, chains_ahead, chains_with, cond, drop_apart, drop_none}
+use Rattle.law_moves.proofs.Imports.{entry_ahead, epochs_beyond, false, inl, inr, is_eq, is_in, is_second, job_keeps, key_at, last_copy, last_on, live}
+use Rattle.law_moves.proofs.Imports.{lookup, max, nat_cmp, none_some, pending_on, put, refl, same_some, subst, sym, true, version_of, without_entry, ℕ}
 use Rattle.std.specs.BTreeMap.{is_at}
 use Rattle.petal_msg.specs.declared.body.Body.TheVariants as body
 use Rattle.petal_msg.specs.declared.operation.FollowProgress.TheVariants as follow_progress
@@ -25,8 +25,9 @@ pub record PutsAsked (heard : Body → Type 0) (here : JobContext) (own : PairSt
   pub number : ℕ
   pub key : Key
   pub version : ℕ
+  pub origin : Option Named
   pub bytes : List ℕ
-  pub asked : heard (body.Replicate number key version bytes)
+  pub asked : heard (body.Replicate number key version origin bytes)
   pub seat : is_in here.state here.me here.inc ≡ true
   pub seconds : is_second here.state here.me (cell_of key) ≡ true
   pub last : last_on own (cell_of key) ≡ Some (record { op = number; progress = follow_progress.Reserved })
@@ -134,12 +135,13 @@ module _ (heard : Body → Type 0) (here : JobContext) (own : PairState) (never 
           bytes = refl;
           chains = ap (λ c. chains_with c op.key stored) same;
         })
-    puts_so chains _ _ _ (A_lead number key told version bytes h follows last next) same =
+    puts_so chains _ _ _ (A_lead number key told version origin bytes h follows last next) same =
         let stored : Stored = record { version = version; bytes = bytes } in
         An_asked (record {
           number = number;
           key = key;
           version = told;
+          origin = origin;
           bytes = bytes;
           asked = h;
           seat = seat;

@@ -1,8 +1,7 @@
 -- What is known of moves after each legal history.
 use Rattle.law_moves.proofs.Imports.{◌++◌, ◌∙◌, ◌∷◌, ◌≡◌, ◌≤◌, AreSteps, At, Cell, Chain, IsLinked, IsSound, LinkRow, List, Moved, Moves, Pairs, Pending}
-use Rattle.law_moves.proofs.Imports.{Record, Run, Script, Some, WasThere, ap, arith, at, at_most_or_above, cell_cmp, cell_of, chosen_state, cut, end_of}
-use Rattle.law_moves.proofs.Imports.{false, history_grows, history_is_firm, inl, inr, is_clients, log_below, place_by, prefix_on, region_of, stage_at, subst}
-use Rattle.law_moves.proofs.Imports.{sym, ℕ}
+use Rattle.law_moves.proofs.Imports.{Record, Run, Script, Some, WasThere, ap, arith, at, at_most_or_above, cell_cmp, cell_of, chosen_state, cut, end_of, false}
+use Rattle.law_moves.proofs.Imports.{history_grows, history_is_firm, inl, inr, is_clients, log_below, place_by, prefix_on, region_of, stage_at, subst, sym, ℕ}
 use Rattle.law_moves.specs.Fills.{HaveComeOver, IsFrozen}
 use Rattle.law_moves.proofs.MovesInHistories.{all_known, known_after}
 use Rattle.law_moves.proofs.AllKeptOfMoves.{Known}

@@ -1,6 +1,6 @@
 -- What a step leaves of a cell at a server that serves its link: no entry goes, and of a cell that is leaving, or has left, none comes.
 use Rattle.law_moves.proofs.Imports.{[], if◌then◌else◌, ◌+◌, ◌==◌, ◌∙◌, ◌≡◌, ◌≤◌, BeforeBlank, Cell, Chain, Command, Handled, IsPrefix, IsServing, Key, List}
-use Rattle.law_moves.proofs.Imports.{None, OneMore, Option, PairState, Pending, Server, Some, Store, ap, append-nil, arith, at, at_apart, at_same}
+use Rattle.law_moves.proofs.Imports.{Named, None, OneMore, Option, PairState, Pending, Server, Some, Store, ap, append-nil, arith, at, at_apart, at_same}
 use Rattle.law_moves.proofs.Imports.{blank_joins_in, by_bool, cell_cmp, cell_of, chain_in, chosen_state, ends_of, false, inl, inr, is_clients, is_in}
 use Rattle.law_moves.proofs.Imports.{is_second, is_some, is_the_one, kept, kept_by, kept_store, last_on, nat_cmp, number_itself, prefix_itself, progress, put}
 use Rattle.law_moves.proofs.Imports.{running_timely, same_or_apart, second, second_by, server_state, stage_at, state_after, subst, sym, true, ℕ}
@@ -46,8 +46,8 @@ module _ (it : OneMore) (all : WereKnown it) where
       Stays_so : new ≡ chain_of (w.servers n) cell → HasChanged new
       Put_own : (op : Pending) → (w.servers n).life.running ≡ true → at cell_cmp (w.servers n).own.pairs.pending cell ≡ Some op → op.stage.put ≡ false
           → IsPutOn (chain_of (w.servers n) cell) new op.key.epoch op.bytes → HasChanged new
-      Put_asked : (number : ℕ) (key : Key) (version : ℕ) (bytes : List ℕ) → (w.servers n).life.running ≡ true
-          → is_in (server_state setting w n) n (w.servers n).life.inc ≡ true → Handled w n (body.Replicate number key version bytes) → cell_of key ≡ cell
+      Put_asked : (number : ℕ) (key : Key) (version : ℕ) (origin : Option Named) (bytes : List ℕ) → (w.servers n).life.running ≡ true
+          → is_in (server_state setting w n) n (w.servers n).life.inc ≡ true → Handled w n (body.Replicate number key version origin bytes) → cell_of key ≡ cell
           → is_second (server_state setting w n) n cell ≡ true
           → last_on (w.servers n).own cell ≡ Some (record { op = number; progress = follow_progress.Reserved })
           → IsPutOn (chain_of (w.servers n) cell) new key.epoch bytes → HasChanged new
@@ -59,7 +59,7 @@ module _ (it : OneMore) (all : WereKnown it) where
       | inl seat ↦ elim (chain_so prior before.filled.opened n job.runs f on lies seat cell low serving job.done job.did job.seat) [
         | Same e ↦ Stays_so (ap (λ (o : PairState). chain_in o.store.chains cell) job.own_is ∙ e)
         | Own_put op is fresh p ↦ Put_own op job.runs is fresh (p.0, p.1, ap (λ (o : PairState). chain_in o.store.chains cell) job.own_is ∙ p.2)
-        | Asked_put number key version bytes hears of seconds last p ↦ Put_asked number key version bytes job.runs seat hears of seconds last
+        | Asked_put number key version origin bytes hears of seconds last p ↦ Put_asked number key version origin bytes job.runs seat hears of seconds last
             (p.0, p.1, ap (λ (o : PairState). chain_in o.store.chains cell) job.own_is ∙ p.2)
       ]
     ]
@@ -70,7 +70,7 @@ module _ (it : OneMore) (all : WereKnown it) where
     has_on to g epoch has = elim (changed_by to g) [
       | Stays_so e ↦ subst (λ (c : Chain). Has c epoch) (sym e) has
       | Put_own op runs is fresh p ↦ has_put (chain_of (w.servers n) cell) (chain_of to cell) op.key.epoch epoch op.bytes p has
-      | Put_asked number key version bytes runs seat hears of seconds last p ↦
+      | Put_asked number key version origin bytes runs seat hears of seconds last p ↦
           has_put (chain_of (w.servers n) cell) (chain_of to cell) key.epoch epoch bytes p has
     ]
 
@@ -81,11 +81,11 @@ module _ (it : OneMore) (all : WereKnown it) where
           (λ clients. let stays = (running_timely script prefix sound prior.legal n cell op runs is clients).stays in absurd (omega arith))
           (λ fills. let one = before.filled.opened n cell op runs is fills in absurd (omega arith))
 
-      not_asked : (number : ℕ) (key : Key) (version : ℕ) (bytes : List ℕ) → (w.servers n).life.running ≡ true
-          → is_in (server_state setting w n) n (w.servers n).life.inc ≡ true → Handled w n (body.Replicate number key version bytes) → cell_of key ≡ cell
+      not_asked : (number : ℕ) (key : Key) (version : ℕ) (origin : Option Named) (bytes : List ℕ) → (w.servers n).life.running ≡ true
+          → is_in (server_state setting w n) n (w.servers n).life.inc ≡ true → Handled w n (body.Replicate number key version origin bytes) → cell_of key ≡ cell
           → is_second (server_state setting w n) n cell ≡ true
           → last_on (w.servers n).own cell ≡ Some (record { op = number; progress = follow_progress.Reserved }) → ⊥
-      not_asked number key version bytes runs seat hears of seconds last =
+      not_asked number key version origin bytes runs seat hears of seconds last =
           let mine = (w.servers n).log.applied in
           let mine_top = (knows it).servers n in
           let b = second_by (server_state setting w n) (steady_at prior mine mine_top) cell n
@@ -110,20 +110,21 @@ module _ (it : OneMore) (all : WereKnown it) where
             number = number;
             key = key;
             version = version;
+            origin = origin;
             bytes = bytes;
             is = hears.is;
             of = of;
             rev = hears.at;
           }) three hears.sent in
           let e : progress (last_on (w.servers n).own cell) ≡ number + number = ap progress last in
-          let lt = past.1 in
-          absurd (omega arith)
+          let lt = past.1 in absurd (omega arith)
 
       pub same_on : (to : Server) → HasGone it n to → chain_of to cell ≡ chain_of (w.servers n) cell
       same_on to g = elim (changed_by to g) [
         | Stays_so e ↦ e
         | Put_own op runs is fresh p ↦ absurd (not_own op runs is)
-        | Put_asked number key version bytes runs seat hears of seconds last p ↦ absurd (not_asked number key version bytes runs seat hears of seconds last)
+        | Put_asked number key version origin bytes runs seat hears of seconds last p ↦
+            absurd (not_asked number key version origin bytes runs seat hears of seconds last)
       ]
 
   -- ### The copy that counts

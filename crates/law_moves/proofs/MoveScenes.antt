@@ -1,7 +1,7 @@
 -- Of whom in a history the lemmas of moves are told.
-use Rattle.law_moves.proofs.Imports.{◌≡◌, ◌≢◌, ◌≤◌, Both, Cell, Command, IsLinked, IsPrefix, Key, Letter, LinkRow, List, Pairs, Pending, Setting, Some, World}
-use Rattle.law_moves.proofs.Imports.{at, cell_cmp, cell_of, chosen_log, chosen_state, false, id_of, is_clients, is_in, leads_link, length, link_named}
-use Rattle.law_moves.proofs.Imports.{pending_on, place_by, region_to_move, server_state, stage_at, state_after, true, ℕ}
+use Rattle.law_moves.proofs.Imports.{◌≡◌, ◌≢◌, ◌≤◌, Both, Cell, Command, IsLinked, IsPrefix, Key, Letter, LinkRow, List, Named, Option, Pairs, Pending}
+use Rattle.law_moves.proofs.Imports.{Setting, Some, World, at, cell_cmp, cell_of, chosen_log, chosen_state, false, id_of, is_clients, is_in, leads_link}
+use Rattle.law_moves.proofs.Imports.{length, link_named, pending_on, place_by, region_to_move, server_state, stage_at, state_after, true, ℕ}
 use Rattle.law_moves.specs.Fills.{IsFrozen, IsThere, WasFilled}
 use Rattle.petal_msg.specs.declared.body.Body.TheVariants as body
 
@@ -59,8 +59,9 @@ pub record AsksToPut (f : List Command) (cell : Cell) : Type 0 where
   pub number : ℕ
   pub key : Key
   pub version : ℕ
+  pub origin : Option Named
   pub bytes : List ℕ
-  pub is : letter.body ≡ body.Replicate number key version bytes
+  pub is : letter.body ≡ body.Replicate number key version origin bytes
   pub of : cell_of key ≡ cell
   pub rev : letter.rev ≡ length f
 

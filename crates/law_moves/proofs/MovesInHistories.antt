@@ -1,9 +1,8 @@
 -- All that is kept of moves is so after each legal history: by each step, where it was so after each prefix of the records.
-use Rattle.law_moves.proofs.Imports.{[], ◌++◌, ◌∙◌, ◌∷◌, ◌≡◌, ◌≤◌, AreSteps, Cell, Command, In, IsPrefix, IsSound, Key, List, OneMore, Pending, Record}
-use Rattle.law_moves.proofs.Imports.{Script, Setting, Some, ap, append-nil, arith, at, at-empty, by_run, cell_cmp, cell_of, chosen_from, chosen_log}
-use Rattle.law_moves.proofs.Imports.{chosen_state, devices, ends_of, false, first_state, flat_map, fold, id_of, inl, inr, is_clients, link_cmp, map, max}
-use Rattle.law_moves.proofs.Imports.{none_before_none, none_some, range_with_len, refl, run_of, setting_of, split_last, stage_at, start, state_after, subst}
-use Rattle.law_moves.proofs.Imports.{sym, vote_place, ℕ}
+use Rattle.law_moves.proofs.Imports.{[], ◌++◌, ◌∙◌, ◌∷◌, ◌≡◌, ◌≤◌, AreSteps, Cell, Command, In, IsPrefix, IsSound, Key, List, OneMore, Pending, Record, Script}
+use Rattle.law_moves.proofs.Imports.{Setting, Some, ap, append-nil, arith, at, at-empty, by_run, cell_cmp, cell_of, chosen_from, chosen_log, chosen_state}
+use Rattle.law_moves.proofs.Imports.{devices, ends_of, false, first_state, flat_map, fold, id_of, inl, inr, is_clients, link_cmp, map, max, none_before_none}
+use Rattle.law_moves.proofs.Imports.{none_some, range_with_len, refl, run_of, setting_of, split_last, stage_at, start, state_after, subst, sym, vote_place, ℕ}
 use Rattle.law_moves.specs.Fills.{AreFilled, IsFrozen, IsThere, WasFilled}
 use Rattle.law_moves.specs.FrozenCopies.{AreStill}
 use Rattle.law_moves.proofs.NoPutsToLeavingCells.{followed_next}

@@ -122,7 +122,7 @@ module _ (it : OneMore) (all : WereKnown it) where
 
       -- each letter that asks the server to put is of an operation that it followed
       module _ (a : AsksToPut f cell) (i : In a.letter v.sent) where
-        open a use {letter, number, key, version, bytes, is, of, rev}
+        open a use {letter, number, key, version, origin, bytes, is, of, rev}
 
         is_of : (about letter.body).cell ≡ Some cell
         is_of = ap (λ (b : Body). (about b).cell) is ∙ ap Some of
@@ -130,7 +130,7 @@ module _ (it : OneMore) (all : WereKnown it) where
         born : 1 ≤ stage_at (By f) cell
         born = (live_stage (By f) cell (G.lives letter i (ap (λ (b : Body). is_between (subject_of b)) is) f lies (sym rev) cell is_of)).0
 
-        told : Tells (pair_at (store_by setting G.stores f) G.visits place cell row.primary row.secondary) (body.Replicate number key version bytes)
+        told : Tells (pair_at (store_by setting G.stores f) G.visits place cell row.primary row.secondary) (body.Replicate number key version origin bytes)
         told = subst (Tells (pair_at (store_by setting G.stores f) G.visits place cell row.primary row.secondary)) is
             ((G.letters letter i f cell row lies (sym rev) linked (omega arith)).both (omega arith) both (last it s three) is_of)
 

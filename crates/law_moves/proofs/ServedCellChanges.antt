@@ -3,7 +3,7 @@
 -- the two, which the holder had started at the server's own place, and nothing was left to copy then.
 use Rattle.law_moves.proofs.Imports.{[], ◌==◌, ◌∙◌, ◌∷◌, ◌≡◌, ◌≤◌, AliveIn, AreCopying, Body, Bool, Cell, Chain, Command, Copying, Did, Handled, HasSent}
 use Rattle.law_moves.proofs.Imports.{IsCaught, IsLeft, IsLinked, IsOther, IsPrefix, IsSeatedOrMute, IsServing, IsSteady, IsTold, JobResult, Key, LastCopy}
-use Rattle.law_moves.proofs.Imports.{LinkRow, List, Only, Option, PairState, Pending, Run, Setting, Some, Store, Stored, Table, World, about}
+use Rattle.law_moves.proofs.Imports.{LinkRow, List, Named, Only, Option, PairState, Pending, Run, Setting, Some, Store, Stored, Table, World, about}
 use Rattle.law_moves.proofs.Imports.{alone_or_flagged, alone_row, ap, arith, at, at_most_or_above, by_bool, cell_cmp, cell_holder, cell_of, chain_apart}
 use Rattle.law_moves.proofs.Imports.{chain_in, chosen_caught_was, chosen_state, copying_on, end_of, false, held_by, id_of, inl, inr, is_alone, is_alone_on}
 use Rattle.law_moves.proofs.Imports.{is_clients, is_flagged, is_in, is_second, kept, last_copy, last_on, live, nat_cmp, none_some, number_itself}
@@ -173,9 +173,9 @@ module _ (it : Run) (opened : AreOpenedComing (end_of it).setting (end_of it).w)
     pub data ChainSo (new : Chain) : Type 0 where
       Same : new ≡ chain → ChainSo new
       Own_put : (op : Pending) → at cell_cmp own.pairs.pending cell ≡ Some op → op.stage.put ≡ false → IsPutOn chain new op.key.epoch op.bytes → ChainSo new
-      Asked_put : (number : ℕ) (key : Key) (version : ℕ) (bytes : List ℕ) → Handled w n (body.Replicate number key version bytes) → cell_of key ≡ cell
-          → is_second (server_state setting w n) n cell ≡ true → last_on own cell ≡ Some (record { op = number; progress = follow_progress.Reserved })
-          → IsPutOn chain new key.epoch bytes → ChainSo new
+      Asked_put : (number : ℕ) (key : Key) (version : ℕ) (origin : Option Named) (bytes : List ℕ)
+          → Handled w n (body.Replicate number key version origin bytes) → cell_of key ≡ cell → is_second (server_state setting w n) n cell ≡ true
+          → last_on own cell ≡ Some (record { op = number; progress = follow_progress.Reserved }) → IsPutOn chain new key.epoch bytes → ChainSo new
 
     stored_so : (new : Table Cell Chain) → StoresSo (Handled w n) (own_place setting w n) own new → ChainSo (chain_in new cell)
     stored_so new (Nothing_new same) = Same (ap (λ c. chain_in c cell) same)
@@ -190,7 +190,7 @@ module _ (it : Run) (opened : AreOpenedComing (end_of it).setting (end_of it).w)
           | inr ne ↦ Same (ap (λ c. chain_in c cell) p.chains ∙ chain_apart own.store.chains (cell_of p.op.key) _ cell (λ f. ne (f ∙ keyed)))
         ]
     stored_so new (An_asked p) = elim (same_cell_or_apart (cell_of p.key) cell) [
-      | inl e ↦ Asked_put p.number p.key p.version p.bytes p.asked e
+      | inl e ↦ Asked_put p.number p.key p.version p.origin p.bytes p.asked e
           (subst (λ (q : Cell). is_second (server_state setting w n) n q ≡ true) e p.seconds)
           (subst (λ (q : Cell). last_on own q ≡ Some (record { op = p.number; progress = follow_progress.Reserved })) e p.last)
           (p.entry, p.put, ap (λ c. chain_in c cell) p.chains ∙ put_on own.store.chains p.key p.entry cell e)

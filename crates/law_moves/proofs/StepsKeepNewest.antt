@@ -6,8 +6,7 @@ use Rattle.law_moves.proofs.Imports.{blank_joins_in, by_bool, cell_cmp, cell_of,
 use Rattle.law_moves.proofs.Imports.{inl, inr, is_clients, kept, key_at, last_happens, length, log_below, log_comes, mover_store, next_comes, none_within}
 use Rattle.law_moves.proofs.Imports.{of_key_on, of_no_key, own_place, own_plain, prefix_itself, prefix_on, prefixes_meet, refl, resting, same_some, source}
 use Rattle.law_moves.proofs.Imports.{stage_at, start, start_comes, start_rests, subst, sym, true, true_false, was_opened, ℕ}
-use Rattle.law_moves.proofs.StepsTellEntries.{Goes_on, HasStore, Is_bare, Keeps, Awakes, Before, Other, Posted, Works, chosen_on, gone, knows, knows_now}
-use Rattle.law_moves.proofs.StepsTellEntries.{sent}
+use Rattle.law_moves.proofs.StepsTellEntries.{Goes_on, HasStore, Is_bare, Keeps, Awakes, Before, Other, Posted, Works, chosen_on, gone, knows, knows_now, sent}
 use Rattle.law_epochs.proofs.EntriesNeverEarly.{kept_by}
 use Rattle.law_moves.proofs.FrozenIsWhatCounted.{frozen_same}
 use Rattle.law_moves.proofs.AllKeptOfMoves.{WasKnown}

@@ -96,7 +96,7 @@ module _ (it : OneMore) (all : WereKnown it) where
 
   module _ (s : IsSecondAt setting v) (a : AsksToPut s.f s.cell) where
     open s use {m, f, cell, row, runs, on, lies, seat, linked, both, second, low}
-    open a use {letter, number, key, version, bytes, is, of}
+    open a use {letter, number, key, version, origin, bytes, is, of}
 
     abbrev IsPast : Type 0
     IsPast = (place_by setting (v.servers m).log.applied row ≡ place_by setting f row)
@@ -134,7 +134,7 @@ module _ (it : OneMore) (all : WereKnown it) where
     not_sent : 3 ≤ stage_at (By top) cell → IsPosted it letter → ⊥
     not_sent high p =
         let asks = did_says (Handled w p.n) (own_place setting w p.n) (w.servers p.n).own (never_retired prior known.filled.opened p.n p.job.runs)
-        p.job.done p.job.did p.post p.there (body.Replicate number key version bytes) (sym p.body ∙ is) in
+        p.job.done p.job.did p.post p.there (body.Replicate number key version origin bytes) (sym p.body ∙ is) in
         let o = asks.op in
         let keyed = (((rests prior).pending p.n).staged o.cell o asks.is).keyed in
         let to : o.cell ≡ cell = sym keyed ∙ ap cell_of asks.of ∙ of in

@@ -1,6 +1,5 @@
 -- The copies of a cell that is leaving: whoever serves its link has what was frozen when its region's fence took effect.
-use Rattle.law_moves.specs.Imports.{Cell, Command, IsPrefix, IsServing, Setting, World, chain_in, chosen_log, chosen_state, is_in, kept, stage_at}
-use Rattle.law_moves.specs.Imports.{state_after}
+use Rattle.law_moves.specs.Imports.{Cell, Command, IsPrefix, IsServing, Setting, World, chain_in, chosen_log, chosen_state, is_in, kept, stage_at, state_after}
 use Rattle.std.specs.Prelude.{◌≡◌, ◌≤◌, List, None, Some, true, ℕ}
 
 pub record AreStill (setting : Setting) (w : World) : Type 0 where

@@ -23,8 +23,7 @@ pub use Rattle.law_steps.proofs.Imports.{prefix_same, report_among, same_caught,
 unfoldable pub use Rattle.law_steps.proofs.Imports.{put}
 pub use Rattle.law_jobs.specs.Imports.{IsNew}
 pub use Rattle.law_jobs.proofs.Imports.{Blanks, By_ballot, By_entry, By_job, Did, Ends, Fails, Goes, Handled, Happens, Ready, Rests, Serves, Serving, Stays}
-pub use Rattle.law_jobs.proofs.Imports.{Turns, Wakes, Was, Worked, at_apart, at_same, below_itself, is_clients, own_place, own_plain, proposed_pairs}
-pub use Rattle.law_jobs.proofs.Imports.{was_same}
+pub use Rattle.law_jobs.proofs.Imports.{Turns, Wakes, Was, Worked, at_apart, at_same, below_itself, is_clients, own_place, own_plain, proposed_pairs, was_same}
 pub use Rattle.law_requests.specs.Imports.{done_to, line_by}
 pub use Rattle.std.proofs.lemmas.Bool.{cases_lt}
 pub use Rattle.law_jobs.proofs.JobsSay.{letters_of_job}

@@ -194,7 +194,7 @@ module _ (g : Grounded) (steady : IsSteady g.state) (n : ℕ) where
       let there = putting_there (ground.good.visits s.row.primary place cell) (store_there g n s.row.primary) cell
       a.number a.key a.bytes
       (elim (heard_shared g n cell s.row s.shares
-      (body.Replicate a.number a.key a.version a.bytes) a.asked refl) [
+      (body.Replicate a.number a.key a.version a.origin a.bytes) a.asked refl) [
         | inl putting ↦ putting
         | inr past ↦ (let at : progress _ ≡ a.number + a.number = ap progress last in absurd (omega arith))
       ]) in

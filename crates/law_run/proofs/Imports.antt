@@ -21,11 +21,11 @@ pub use Rattle.law_log.proofs.Imports.{Acted, Actor, After, Answer, AreSteps, Ar
 pub use Rattle.law_log.proofs.Imports.{Equal, Firm, HasProperTuples, IsSettledState, IsSound, Job, JobContext, JobResult, Key, LastCopy, Letter, Log, LogDone}
 pub use Rattle.law_log.proofs.Imports.{MayActor, Pending, Post, Reaction, Sight, Step, StopIn, Stored, Table, Work, WorkEnd, about, acts, all_put}
 pub use Rattle.law_log.proofs.Imports.{all_put_apart, answers, awake, blanked, boots, cell_of, chain_in, client_sender, client_state, client_step, command_of}
-pub use Rattle.law_log.proofs.Imports.{copying_on, crossing, down_posts, ended, entered, epoch_for, first_wanted, get_within, has_proposed, hears, hears_any}
-pub use Rattle.law_log.proofs.Imports.{hears_of, here_of, id_of, is_eq, is_flagged, is_log_job, is_logged, is_overfull, is_read, is_second, is_under_way}
-pub use Rattle.law_log.proofs.Imports.{is_write, job_done, known, log_plain, nat_cmp, nat_cmp_total, next_line, next_place, put_apart, put_same, raised}
-pub use Rattle.law_log.proofs.Imports.{ranked, reacts, rev_of, sender, server_state, server_step, setting_of, stamped, start, state_in, stays, stepped}
-pub use Rattle.law_log.proofs.Imports.{stopped, stops, subject_of, voter_of, wakes, wanted_by, worked, works, world_after}
+pub use Rattle.law_log.proofs.Imports.{copying_on, crossing, down_posts, ended, entered, epoch_for, first_wanted, get_within, has_full_log, has_proposed}
+pub use Rattle.law_log.proofs.Imports.{hears, hears_any, hears_of, here_of, id_of, is_eq, is_flagged, is_log_job, is_logged, is_overfull, is_read, is_second}
+pub use Rattle.law_log.proofs.Imports.{is_under_way, is_write, job_done, known, log_plain, nat_cmp, nat_cmp_total, next_line, next_place, put_apart, put_same}
+pub use Rattle.law_log.proofs.Imports.{raised, ranked, reacts, rev_of, sender, server_state, server_step, setting_of, stamped, start, state_in, stays}
+pub use Rattle.law_log.proofs.Imports.{stepped, stopped, stops, subject_of, voter_of, wakes, wanted_by, worked, works, world_after}
 unfoldable pub use Rattle.law_log.proofs.Imports.{applies, does, heard, log_does, refusal, starts, step}
 pub use Rattle.law_steps.specs.Imports.{Finished, Glanced, IsBelow, Refused, Sender, Stage, StaysSo, Subject, before_blanks, bytes_of, cell_cmp, coming}
 pub use Rattle.law_steps.specs.Imports.{crossed, entry_at, epochs_beyond, letters_of, live, pattern_block, stage_at}

@@ -2,10 +2,10 @@
 -- what its state device has, so that nothing more is chosen.
 use Rattle.law_run.proofs.Imports.{[], ◌+◌, ◌∙◌, ◌∷◌, ◌≡◌, Acted, After, Before, Boot, Command, Deliver, In, Job, JobContext, Letter, List, LogDone, LogFrame}
 use Rattle.law_run.proofs.Imports.{None, Option, Sender, Server, Some, State, Step, StopIn, Work, WorkEnd, ap, applied_entry, applied_none, applies, awake}
-use Rattle.law_run.proofs.Imports.{ballot_store, boots, by_test, crossing, does, down_posts, entered, false, first_wanted, here_of, is_log_job, is_overfull}
-use Rattle.law_run.proofs.Imports.{job_done, known, letter_frame_of, letters_of, log_does, next_place, no_pairs, proposed_pairs, raised, refl, rev_of, said}
-use Rattle.law_run.proofs.Imports.{sender, server_step, servers_of, stamped, start_frame_of, starts, stays, stops, subject_of, voter_of, wakes, wanted_by}
-use Rattle.law_run.proofs.Imports.{without_rev, worked, works, ℕ}
+use Rattle.law_run.proofs.Imports.{ballot_store, boots, by_test, crossing, does, down_posts, entered, false, first_wanted, has_full_log, here_of, is_log_job}
+use Rattle.law_run.proofs.Imports.{is_overfull, job_done, known, letter_frame_of, letters_of, log_does, next_place, no_pairs, proposed_pairs, raised, refl}
+use Rattle.law_run.proofs.Imports.{rev_of, said, sender, server_step, servers_of, stamped, start_frame_of, starts, stays, stops, subject_of, voter_of, wakes}
+use Rattle.law_run.proofs.Imports.{wanted_by, without_rev, worked, works, ℕ}
 use Rattle.law_run.proofs.DataLetters.{downs_unended, is_reply, logged_unended}
 use Rattle.petal_msg.specs.declared.letter.Actor.TheVariants as actor
 use Rattle.spec_rules.specs.declared.job.Job.TheVariants as job
@@ -74,10 +74,10 @@ module _ (state : State) (me : ℕ) (server : Server) where
 
   boots_kind : (end : WorkEnd) → K (boots here server end)
   unfolding In
-  boots_kind work_end.Done = by_test K (is_overfull (raised server)) (stays server) (wakes here (awake (raised server))) (λ t. Of_the_rest refl)
+  boots_kind work_end.Done = by_test K (has_full_log (raised server)) (stays server) (wakes here (awake (raised server))) (λ t. Of_the_rest refl)
       (λ t. Of_a_boot refl refl (downs_quiet (record { from = actor.Server me; inc = server.life.inc + 1; rev = rev_of (awake (raised server)).log })))
   boots_kind (work_end.Fault Before) = Of_the_rest refl
-  boots_kind (work_end.Fault After) = by_test (λ (x : Server). K (stays x)) (is_overfull (raised server)) server (raised server) (λ t. Of_the_rest refl)
+  boots_kind (work_end.Fault After) = by_test (λ (x : Server). K (stays x)) (has_full_log (raised server)) server (raised server) (λ t. Of_the_rest refl)
       (λ t. Of_the_log refl refl (λ stamp letter h. absurd h))
 
   pub step_kind : (what : Step) → K (server_step what state me server)

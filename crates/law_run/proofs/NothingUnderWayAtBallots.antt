@@ -4,13 +4,12 @@ use Rattle.law_run.proofs.Imports.{◌++◌, ◌==◌, ◌∙◌, ◌≡◌, ◌
 use Rattle.law_run.proofs.Imports.{CopiesWaitEqual, HasAppliedNone, HasEqualCopies, HasProperTuples, IsAt, IsBetween, IsCatching, IsLast, IsPrefix, IsRetired}
 use Rattle.law_run.proofs.Imports.{IsSound, KeptAfter, LinkRow, List, None, Only, Option, PairOk, PairState, Record, Rests, Script, Server, Setting, Some}
 use Rattle.law_run.proofs.Imports.{State, StaysSo, Store, WasThere, World, alive_on, alone_by, always_firm, ap, arith, asking_along, at, at_by, both_true}
-use Rattle.law_run.proofs.Imports.{cell_cmp, cell_link, chain_in, chosen_log, chosen_state, copying_on, counted, false, good_after, has_proposed}
-use Rattle.law_run.proofs.Imports.{held_as_flag, history_agrees, history_grows, history_is_firm, holder_is_one, id_of, in_once, inc_of, inl, inr, is_at_work}
-use Rattle.law_run.proofs.Imports.{is_flagged, is_in, live, live_stage, log_held_or_both, log_steady, none_some, one_place, one_row, option_map_or}
-use Rattle.law_run.proofs.Imports.{other_alone, other_between, other_of, pair_at, place_by, place_in, place_of_later, places_grow, prefix_itself}
-use Rattle.law_run.proofs.Imports.{prefix_legal, prefix_on, prefix_plain, refl, rests_after, same_or_apart, same_place, server_state, setting_of}
-use Rattle.law_run.proofs.Imports.{some_or_none, split_prefixes, start, start_rests, state_after, store_by, subst, sym, top_last, true, true_false}
-use Rattle.law_run.proofs.Imports.{world_after, ℕ}
+use Rattle.law_run.proofs.Imports.{cell_cmp, cell_link, chain_in, chosen_log, chosen_state, copying_on, counted, false, good_after, has_proposed, held_as_flag}
+use Rattle.law_run.proofs.Imports.{history_agrees, history_grows, history_is_firm, holder_is_one, id_of, in_once, inc_of, inl, inr, is_at_work, is_flagged}
+use Rattle.law_run.proofs.Imports.{is_in, live, live_stage, log_held_or_both, log_steady, none_some, one_place, one_row, option_map_or, other_alone}
+use Rattle.law_run.proofs.Imports.{other_between, other_of, pair_at, place_by, place_in, place_of_later, places_grow, prefix_itself, prefix_legal, prefix_on}
+use Rattle.law_run.proofs.Imports.{prefix_plain, refl, rests_after, same_or_apart, same_place, server_state, setting_of, some_or_none, split_prefixes, start}
+use Rattle.law_run.proofs.Imports.{start_rests, state_after, store_by, subst, sym, top_last, true, true_false, world_after, ℕ}
 use Rattle.law_run.proofs.OwnPlacesAreLatest.{equal_pair, unfollowed_halves}
 
 module _ (script : Script) (records : List Record) (sound : IsSound script) (legal : AreSteps script records) where

@@ -11,8 +11,7 @@ use Rattle.law_script.proofs.Imports.{tuple_of, two_words, value, version_by, ve
 use Rattle.law_script.specs.Faults.{Positions, place, numbers_only, server_place, servers_positions, net_positions, bare_positions, spread_positions}
 use Rattle.law_script.specs.Faults.{write_positions, version_names, read_positions, snap_positions, client_positions, stop_positions, boot_positions}
 use Rattle.law_script.specs.Faults.{is_device, is_kind, fault_positions, operator_positions, line_positions, is_good, bad_name, bad_number, is_unfit}
-use Rattle.law_script.specs.Faults.{bad_tuple, lacks_servers, with_request, lines_with, are_too_many, leave_no_majority, servers_in, has_fault, in_order}
-use Rattle.law_script.specs.Faults.{told}
+use Rattle.law_script.specs.Faults.{bad_tuple, lacks_servers, with_request, lines_with, are_too_many, leave_no_majority, servers_in, has_fault, in_order, told}
 use Rattle.device_faults.specs.declared.which.Which.TheVariants as devices
 use Rattle.device_faults.specs.declared.plan.CallKind.TheVariants as calls
 

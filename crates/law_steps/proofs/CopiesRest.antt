@@ -268,7 +268,7 @@ holder_rests heard here own done r (Begins_copy id row other cell _ held next st
 holder_rests heard here own done r (Goes_on_copying cell now copy _ taken step) =
     step_rests here now cell copy done (taken_rests heard here own cell now copy r taken) step
 holder_rests heard here own _ r (Finds_it_full cell copy h is trimmed lt) = full_put here (without_copying own cell) (copying_gone here own r cell) true
-holder_rests heard here own _ r (Tidies id row block kind is both idle left) = resting_equal here.state here.me own _ refl r
+holder_rests heard here own _ r (Tidies id row kind cells is both idle) = resting_equal here.state here.me own _ refl r
 
 trim_rests : (here : JobContext) (own : PairState) (cell : Cell) (last : LastCopy) (holder : ℕ) (done : JobResult) → AreResting here.state here.me own
     → TrimStep own cell last holder done → AreResting here.state here.me done.own

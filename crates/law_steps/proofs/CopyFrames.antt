@@ -1,9 +1,8 @@
 -- What a job of copies leaves as it is: what the server remembers of writes, but that its numbers go on; and it speaks of copies alone.
-use Rattle.law_steps.proofs.Imports.{◌∙◌, ◌≡◌, ◌≤◌, Body, Cell, Copied, Copying, In, JobContext, JobResult, LastCopy, Letter, LinkRow, None, Option}
-use Rattle.law_steps.proofs.Imports.{PairState, Pairs, Post, Progress, Some, above, ap, arith, begins_copy, by_test, caught_put, cell_cmp, cell_cmp_total}
-use Rattle.law_steps.proofs.Imports.{cell_link, cell_of, chain_in, epochs_of, key_at, mends_only, no_letter, no_posts, only_mend, only_stage, page_wanted}
-use Rattle.law_steps.proofs.Imports.{progress_on, refl, subject_of, subst, sym, true, with_copied, with_last_copy, with_page, with_progress, without_copying}
-use Rattle.law_steps.proofs.Imports.{ℕ}
+use Rattle.law_steps.proofs.Imports.{◌∙◌, ◌≡◌, ◌≤◌, Body, Cell, Copied, Copying, In, JobContext, JobResult, LastCopy, Letter, LinkRow, None, Option, PairState}
+use Rattle.law_steps.proofs.Imports.{Pairs, Post, Progress, Some, above, ap, arith, begins_copy, by_test, caught_put, cell_cmp, cell_cmp_total, cell_link}
+use Rattle.law_steps.proofs.Imports.{cell_of, chain_in, epochs_of, key_at, mends_only, no_letter, no_posts, only_mend, only_stage, page_wanted, progress_on}
+use Rattle.law_steps.proofs.Imports.{refl, subject_of, subst, sym, true, with_copied, with_last_copy, with_page, with_progress, without_copying, ℕ}
 use Rattle.law_steps.specs.Ready.{IsRising}
 use Rattle.law_steps.proofs.TablesOfPuts.{put_rises, without_rises}
 use Rattle.law_steps.specs.DidHolder.{DidHolder, CopyStep, Asks_to_trim, Sends, Unmarks_copied, Closes_copy, TakenCopy, Copy_as_is, Copy_trimmed, Copy_synced}
@@ -129,7 +128,7 @@ of_holder heard here own done (Goes_on_copying cell now copy _ taken step) =
     taken_frame heard own cell now copy done taken (step_frame here now cell copy done step)
 of_holder heard here own _ (Finds_it_full cell copy h is trimmed lt) = same own _ refl (λ r. refl) (λ h. without_rises cell_cmp own.copies.pending cell h)
     (λ post i. no_posts post i) no_letter
-of_holder heard here own _ (Tidies id row block kind is both idle left) = same own _ refl (λ r. refl) (λ h. h)
+of_holder heard here own _ (Tidies id row kind cells is both idle) = same own _ refl (λ r. refl) (λ h. h)
     (λ post i. no_posts post i) (λ letter. only_mend letter _)
 
 trim_frame : (own : PairState) (cell : Cell) (last : LastCopy) (holder : ℕ) (done : JobResult) → TrimStep own cell last holder done → CopyFrame own done

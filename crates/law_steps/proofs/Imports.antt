@@ -13,24 +13,24 @@ pub use Rattle.law_state.proofs.Imports.{not_true, number_itself, option_and_the
 pub use Rattle.law_state.proofs.Imports.{same_numbers, same_or_apart, same_some, second, slice_get, state_lead, subst, suc, sym, touches, true, true_false}
 pub use Rattle.law_state.proofs.Imports.{unwrap_or, zero, ℕ}
 pub use Rattle.law_log.proofs.Imports.{Accepted, Acted, Action, Actor, After, Again, Answer, AreSteps, AreStepsFrom, Arm, Ask, Asked, Before, Blank, Block}
-pub use Rattle.law_log.proofs.Imports.{Body, Boot, Call, Client, Collecting, CopyAction, Copying, Decided, Deliver, Ending, Entry, Equal, Firm}
-pub use Rattle.law_log.proofs.Imports.{FollowProgress, Glance, Grows, HasProperTuple, HasProperTuples, Heard, Idle, Inc, IsSettledState, IsSound}
-pub use Rattle.law_log.proofs.Imports.{IsTotalOrder, Job, JobContext, JobResult, Key, LastCopy, LastOp, Learning, Letter, Line, Log, LogDone, MayActor}
-pub use Rattle.law_log.proofs.Imports.{MayClient, MayServer, Moving, Newer, NextCopy, Older, OpKind, Pax, Pending, Phase, Post, Promise, Reaction, Refused}
-pub use Rattle.law_log.proofs.Imports.{Request, Retired, Script, Send, Sight, StateRecord, Step, Stop, StopIn, Stored, Table, Tick, Voter, Voting, Wait}
-pub use Rattle.law_log.proofs.Imports.{Wanted, Work, WorkEnd, about, above, all_put, answered_where, answers, answers_page, applies_known, applies_then}
-pub use Rattle.law_log.proofs.Imports.{ask_posts, asking, asks_and_sends, at_other_rev, awaited, awake, ballot_posts, before_known, begins_copy, blanked}
-pub use Rattle.law_log.proofs.Imports.{boots, called, calls, catches_up, caught_links, cell_at, cell_holder, cell_of, chain_in, clears_old_marks}
-pub use Rattle.law_log.proofs.Imports.{client_sender, client_state, client_step, comes_out, command_of, copies_again, copies_with, copy_acts, copy_awaited}
-pub use Rattle.law_log.proofs.Imports.{copy_posts, copy_stage, copying_on, crossing, down_posts, draining, ends, entered, epoch_for, eq_by_cmp, fill_of}
-pub use Rattle.law_log.proofs.Imports.{fill_operation, fill_posts, fills_row, first_wanted, flat_map, follows_once, free_of, get_within, gives_back}
-pub use Rattle.law_log.proofs.Imports.{glance_sender, glances, goes_for, goes_on_with, goes_out, goes_out_where, goes_the_old_way, has_command, has_epoch}
-pub use Rattle.law_log.proofs.Imports.{has_majority, has_proposed, hear, hears, hears_any, hears_entry, hears_fill, hears_fill_full, hears_filled}
-pub use Rattle.law_log.proofs.Imports.{hears_hello, hears_of, hears_of_ballot, hears_page, hears_pair_full, hears_replicate, hears_replicated, hears_reserve}
-pub use Rattle.law_log.proofs.Imports.{hears_reserved, hears_sync, hears_sync_full, hears_synced, hears_trim, hears_trim_of, hears_trimmed, holds_link, id_of}
-pub use Rattle.law_log.proofs.Imports.{idle_mark, is_caught, is_due, is_eq, is_flagged, is_from_in, is_kept_back, is_log_job, is_logged, is_next, is_nothing}
-pub use Rattle.law_log.proofs.Imports.{is_open, is_overfull, is_pending_for, is_read, is_replicating, is_reserving, is_second, is_settled, is_some}
-pub use Rattle.law_log.proofs.Imports.{is_syncing, is_under_way, is_witness, is_write, job_done, judged, judged_by, keeps, key_at, known, known_at, known_inc}
+pub use Rattle.law_log.proofs.Imports.{Body, Boot, Call, Client, Collecting, CopyAction, Copying, Decided, Deliver, Ending, Entry, Equal, Firm, FollowProgress}
+pub use Rattle.law_log.proofs.Imports.{Glance, Grows, HasProperTuple, HasProperTuples, Heard, Idle, Inc, IsSettledState, IsSound, IsTotalOrder, Job}
+pub use Rattle.law_log.proofs.Imports.{JobContext, JobResult, Key, LastCopy, LastOp, Learning, Letter, Line, Log, LogDone, MayActor, MayClient, MayServer}
+pub use Rattle.law_log.proofs.Imports.{Moving, Named, Newer, NextCopy, Older, OpKind, Pax, Pending, Phase, Post, Promise, Reaction, Refused, Request, Retired}
+pub use Rattle.law_log.proofs.Imports.{Script, Send, Sight, StateRecord, Step, Stop, StopIn, Stored, Table, Tick, Voter, Voting, Wait, Wanted, Work, WorkEnd}
+pub use Rattle.law_log.proofs.Imports.{about, above, all_put, answered_where, answers, answers_page, applies_known, applies_then, ask_posts, asking}
+pub use Rattle.law_log.proofs.Imports.{asks_and_sends, at_other_rev, awaited, awake, ballot_posts, before_known, begins_copy, blanked, boots, called, calls}
+pub use Rattle.law_log.proofs.Imports.{catches_up, caught_links, cell_at, cell_holder, cell_of, chain_in, clears_old_marks, client_limit, client_sender}
+pub use Rattle.law_log.proofs.Imports.{client_state, client_step, comes_out, command_of, copies_again, copies_with, copy_acts, copy_awaited, copy_posts}
+pub use Rattle.law_log.proofs.Imports.{copy_stage, copying_on, crossing, down_posts, draining, ends, entered, epoch_for, eq_by_cmp, fill_of, fill_operation}
+pub use Rattle.law_log.proofs.Imports.{fill_posts, fills_row, first_wanted, flat_map, follows_once, free_of, get_within, gives_back, glance_sender, glances}
+pub use Rattle.law_log.proofs.Imports.{goes_for, goes_on_with, goes_out, goes_out_where, goes_the_old_way, has_command, has_epoch, has_full_log, has_majority}
+pub use Rattle.law_log.proofs.Imports.{has_proposed, hear, hears, hears_any, hears_entry, hears_fill, hears_fill_full, hears_filled, hears_hello, hears_of}
+pub use Rattle.law_log.proofs.Imports.{hears_of_ballot, hears_page, hears_pair_full, hears_replicate, hears_replicated, hears_reserve, hears_reserved}
+pub use Rattle.law_log.proofs.Imports.{hears_sync, hears_sync_full, hears_synced, hears_trim, hears_trim_of, hears_trimmed, holds_link, id_of, idle_cells}
+pub use Rattle.law_log.proofs.Imports.{is_caught, is_due, is_eq, is_flagged, is_from_in, is_kept_back, is_log_job, is_logged, is_next, is_nothing, is_open}
+pub use Rattle.law_log.proofs.Imports.{is_overfull, is_pending_for, is_read, is_replicating, is_reserving, is_second, is_settled, is_some, is_syncing}
+pub use Rattle.law_log.proofs.Imports.{is_under_way, is_witness, is_write, job_done, judged, judged_by, keeps, key_at, known, known_at, known_inc}
 pub use Rattle.law_log.proofs.Imports.{known_prefix, known_run, last_copy, last_on, learns_first, less_by, link_before, link_jobs, link_named, log_plain}
 pub use Rattle.law_log.proofs.Imports.{mends_found, moving, nat_cmp, next_entries, next_line, next_place, no_progress, only, opened, opens, opens_fill}
 pub use Rattle.law_log.proofs.Imports.{other_in, own_join, own_leave, own_wants, page_asked, page_for, page_posts, page_wanted, pending_on, post_in_turn}
@@ -39,7 +39,7 @@ pub use Rattle.law_log.proofs.Imports.{read_posts, read_posts_at, region_to_move
 pub use Rattle.law_log.proofs.Imports.{same_block, says, sees, sees_for, sees_from, sender, sends_entry, sends_key, sends_moving, sends_or_proposes}
 pub use Rattle.law_log.proofs.Imports.{sent_again, server_state, server_step, setting_of, settles, silent, stage_jobs, stamped, start, starts_for, state_in}
 pub use Rattle.law_log.proofs.Imports.{stays, stays_open, stepped, steps_begin, stops, subject_of, sweeps_with, takes, takes_all, takes_entries, takes_entry}
-pub use Rattle.law_log.proofs.Imports.{takes_mark, takes_newer, tells, then_goes_out, tick_jobs, tick_posts, tied_itself, to_propose, trims_again}
+pub use Rattle.law_log.proofs.Imports.{takes_marks, takes_newer, tells, then_goes_out, tick_jobs, tick_posts, tied_itself, to_propose, trims_again}
 pub use Rattle.law_log.proofs.Imports.{trims_first, trims_for, trims_newly, unknown_from, verdict_for, voter_of, wakes, wanted, wanted_by, way_now}
 pub use Rattle.law_log.proofs.Imports.{with_copied, with_full, with_last_copy, with_leave, with_opened, with_page, with_progress, with_sight, without_copying}
 pub use Rattle.law_log.proofs.Imports.{without_pending, witnessed, worked, works, world_after, write_posts, wrong_rev}
@@ -48,9 +48,9 @@ unfoldable pub use Rattle.law_log.proofs.Imports.{on_ask, on_down, on_fill, on_f
 unfoldable pub use Rattle.law_log.proofs.Imports.{on_propose, on_read, on_replicate, on_replicated, on_reserve, on_reserved, on_sync, on_sync_full, on_synced}
 unfoldable pub use Rattle.law_log.proofs.Imports.{on_trim, on_trimmed, on_write, put_at, refusal, repairs, starts, step, sweeps, ticked, trims_on}
 pub use Rattle.law_steps.specs.Imports.{Busy, Copied, Finished, Glanced, IsBelow, MarkKind, Nothing, Paired, Pattern, Sender, Stage, Stale, StaysSo, Subject}
-pub use Rattle.law_steps.specs.Imports.{acts, bytes_of, cell_cmp, coming, crossed, entry_at, epochs_beyond, epochs_of, holder_of, least, letters_of, live}
-pub use Rattle.law_steps.specs.Imports.{mark_left, marked_blocks, next_stage, operation, pattern_block, settled_by, stage_at, with_copying, with_pending}
-pub use Rattle.law_steps.specs.Imports.{with_reserved}
+pub use Rattle.law_steps.specs.Imports.{acts, bytes_of, cell_cmp, coming, crossed, entry_at, epochs_beyond, epochs_of, has_room, has_stored, holder_of, least}
+pub use Rattle.law_steps.specs.Imports.{letters_of, live, mark_left, marked_blocks, next_stage, operation, origin_by, pattern_block, settled_by, stage_at}
+pub use Rattle.law_steps.specs.Imports.{with_copying, with_pending, with_reserved}
 unfoldable pub use Rattle.law_steps.specs.Imports.{next_fill}
 pub use Rattle.std.proofs.Common.{fold}
 pub use Rattle.std.specs.BTreeMap.{insert_entry, is_at}

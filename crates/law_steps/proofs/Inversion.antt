@@ -30,8 +30,8 @@ module _ (heard : Body → Type 0) (here : JobContext) (own : PairState) (steady
       by_test D (is_second here.state here.me cell) _ _ (λ s. did_reserve heard here own number cell _ h s refl) (λ t. Ignores)
   did_handle seated (body.Reserved number cell) h = did_reserved heard here own steady staged number cell _ h refl
   did_handle seated (body.PairFull number cell) h = did_pair_full heard here own steady staged number cell _ h refl
-  did_handle seated (body.Replicate number key version bytes) h =
-      by_test D (is_second here.state here.me (cell_of key)) _ _ (λ s. did_replicate heard here own number key version bytes _ h s refl) (λ t. Ignores)
+  did_handle seated (body.Replicate number key version origin bytes) h =
+      by_test D (is_second here.state here.me (cell_of key)) _ _ (λ s. did_replicate heard here own number key version origin bytes _ h s refl) (λ t. Ignores)
   did_handle seated (body.Replicated number cell) h = did_replicated heard here own steady staged number cell _ h refl
   did_handle seated (body.HelloAsk map link after) h = did_hello_ask heard here own (record { map = map; link = link }) after h
   did_handle seated (body.Hello map link after block) h = did_hello heard here own (record { map = map; link = link }) after block h

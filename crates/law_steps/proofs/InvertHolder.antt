@@ -1,12 +1,12 @@
 -- What a server does so that a link is brought up to date is one of the kinds that the relation names: the holder's part.
-use Rattle.law_steps.proofs.Imports.{◌&&◌, ◌+◌, ◌<◌, ◌==◌, ◌≡◌, ◌≤◌, Ask, Block, Body, Both, Cell, CopyAction, Copying, JobContext, JobResult, LinkId}
-use Rattle.law_steps.proofs.Imports.{LinkRow, LinkState, Lost, MarkKind, NextCopy, None, Nothing, Only, Option, PairState, Some, State, Wait, arith}
-use Rattle.law_steps.proofs.Imports.{begins_copy, blocks_left, both_true, by_test, catches_up, cell_at, cell_same, chain_in, clears_old_marks, copies_on}
-use Rattle.law_steps.proofs.Imports.{copies_with, copy_acts, copy_stage, copying_on, false, get_within, goes_for, hears_hello, hears_page, hears_sync_full}
-use Rattle.law_steps.proofs.Imports.{hears_synced, hears_trimmed, idle_mark, is_link_under_way, is_syncing, is_under_way, least, length, less_by, link_named}
-use Rattle.law_steps.proofs.Imports.{mark_left, mends_found, nat_lt, nat_tests, next_block, next_copy, not, not_true, on_hello, on_sync_full, on_synced}
-use Rattle.law_steps.proofs.Imports.{on_trimmed, option_map_or, other_in, progress_on, refl, repairs, repairs_row, same_block, same_numbers, sends_entry}
-use Rattle.law_steps.proofs.Imports.{subst, sym, takes_mark, true, was_true, with_copying, ℕ}
+use Rattle.law_steps.proofs.Imports.{◌&&◌, ◌+◌, ◌<◌, ◌==◌, ◌≡◌, ◌≤◌, ◌∷◌, [], Ask, Block, Body, Both, Busy, Cell, CopyAction, Copying, JobContext}
+use Rattle.law_steps.proofs.Imports.{JobResult, LinkId, LinkRow, LinkState, List, Lost, MarkKind, NextCopy, None, Nothing, Only, Option, PairState, Some}
+use Rattle.law_steps.proofs.Imports.{Stale, State, Wait, arith, begins_copy, blocks_left, both_true, by_test, catches_up, cell_at, cell_same, chain_in}
+use Rattle.law_steps.proofs.Imports.{clears_old_marks, copies_on, copies_with, copy_acts, copy_stage, copying_on, false, get_within, goes_for, hears_hello}
+use Rattle.law_steps.proofs.Imports.{hears_page, hears_sync_full, hears_synced, hears_trimmed, idle_cells, is_link_under_way, is_syncing, is_under_way}
+use Rattle.law_steps.proofs.Imports.{least, length, less_by, link_named, mark_left, mends_found, nat_lt, nat_tests, next_block, next_copy, not, not_true}
+use Rattle.law_steps.proofs.Imports.{on_hello, on_sync_full, on_synced, on_trimmed, option_map_or, other_in, progress_on, refl, repairs, repairs_row}
+use Rattle.law_steps.proofs.Imports.{same_block, same_numbers, sends_entry, subst, sym, takes_marks, true, was_true, with_copying, ℕ}
 use Rattle.law_steps.specs.Did.{Did, Ignores, By_holder}
 use Rattle.law_steps.specs.DidHolder.{CopyStep, Asks_to_trim, Sends, Unmarks_copied, Closes_copy, IsHeldWith, IsSynced, first_copy, Copy_as_is, Copy_trimmed}
 use Rattle.law_steps.specs.DidHolder.{Copy_synced, Asks_page, Turns_page, Begins_copy, Goes_on_copying, Finds_it_full, Tidies}
@@ -90,18 +90,18 @@ module _ (heard : Body → Type 0) (here : JobContext) (own : PairState) where
   did_catches id row is None e = Ignores
   did_catches id row is (Some other) e = did_goes_for id row other (record { is = is; other_is = e }) (next_copy here.state row own) refl
 
-  did_takes : (id : LinkId) (row : LinkRow) (block : ℕ) → link_named here.state id ≡ Some row → row.state ≡ Both → idle_mark here.state row own ≡ Some block
-      → (o : Option MarkKind) → mark_left own.store (cell_at row block) ≡ o → D (takes_mark own row (cell_at row block) o)
-  did_takes id row block is both idle None e = Ignores
-  did_takes id row block is both idle (Some kind) e = By_holder _ (Tidies id row block kind is both idle e)
+  did_takes : (id : LinkId) (row : LinkRow) (kind : MarkKind) → link_named here.state id ≡ Some row → row.state ≡ Both
+      → (cells : List Cell) → idle_cells here.state row own kind ≡ cells → D (takes_marks own row kind cells)
+  did_takes id row kind is both [] e = Ignores
+  did_takes id row kind is both (cell ∷ cells) e = By_holder _ (Tidies id row kind (cell ∷ cells) is both e)
 
-  did_tidies : (id : LinkId) (row : LinkRow) → link_named here.state id ≡ Some row → row.state ≡ Both → (o : Option ℕ) → idle_mark here.state row own ≡ o
-      → D (clears_old_marks own row o)
-  did_tidies id row is both None e = Ignores
-  did_tidies id row is both (Some block) e = did_takes id row block is both e (mark_left own.store (cell_at row block)) refl
+  did_tidies : (id : LinkId) (row : LinkRow) → link_named here.state id ≡ Some row → row.state ≡ Both
+      → (busy : List Cell) → idle_cells here.state row own Busy ≡ busy → D (clears_old_marks here.state own row busy)
+  did_tidies id row is both [] e = did_takes id row Stale is both (idle_cells here.state row own Stale) refl
+  did_tidies id row is both (cell ∷ cells) e = did_takes id row Busy is both (cell ∷ cells) e
 
   did_row : (id : LinkId) (row : LinkRow) → link_named here.state id ≡ Some row → (state : LinkState) → row.state ≡ state → D (repairs_row here own row state)
-  did_row id row is Both e = did_tidies id row is e (idle_mark here.state row own) refl
+  did_row id row is Both e = did_tidies id row is e (idle_cells here.state row own Busy) refl
   did_row id row is (Only holder whole) e = did_catches id row is (other_in here.state here.me row) refl
   did_row id row is Lost e = Ignores
 

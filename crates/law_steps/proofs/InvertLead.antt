@@ -2,12 +2,12 @@
 use Rattle.law_steps.proofs.Imports.{if◌then◌else◌, ◌&&◌, ◌+◌, ◌<◌, ◌==◌, ◌||◌, ◌∙◌, ◌≡◌, ◌≤◌, Again, Body, Bool, Cell, Copy, Finished, In, IsSteady}
 use Rattle.law_steps.proofs.Imports.{JobContext, JobResult, Moving, Newer, None, Older, OpKind, Option, PairState, Pending, Post, Some, Stage, Wanted}
 use Rattle.law_steps.proofs.Imports.{Written, acts, alone_action, ap, arith, at, both_action, both_true, by_bool, by_test, cell_cmp_total, cell_of, cell_same}
-use Rattle.law_steps.proofs.Imports.{chain_in, copying_on, either_false, either_of, ends, false, fill_operation, free_of, goes_on, goes_on_with, has_epoch}
-use Rattle.law_steps.proofs.Imports.{has_proposed, hears_fill, hears_pair_full, hears_replicated, hears_reserved, held, in_both, is_in, is_kept_back, is_lead}
-use Rattle.law_steps.proofs.Imports.{is_pending_for, is_replicating, is_reserving, is_some, is_under_way, is_writes_held, leads_link, live, nat_cmp, nat_lt}
-use Rattle.law_steps.proofs.Imports.{nat_tests, next_stage, none_of, not, not_true, on_fill, on_write, only, opened, opens, opens_fill, operation, pending_on}
-use Rattle.law_steps.proofs.Imports.{post_to, refl, said, same_numbers, says, second, standing, subst, sym, takes, takes_newer, true, true_false, was_true}
-use Rattle.law_steps.proofs.Imports.{with_opened, with_paired, with_pending, with_reserved, without_pending, ℕ}
+use Rattle.law_steps.proofs.Imports.{chain_in, client_limit, copying_on, either_false, either_of, ends, false, fill_operation, free_of, goes_on, goes_on_with}
+use Rattle.law_steps.proofs.Imports.{has_epoch, has_proposed, hears_fill, hears_pair_full, hears_replicated, hears_reserved, held, in_both, is_in}
+use Rattle.law_steps.proofs.Imports.{is_kept_back, is_lead, is_pending_for, is_replicating, is_reserving, is_some, is_under_way, is_writes_held, leads_link}
+use Rattle.law_steps.proofs.Imports.{live, nat_cmp, nat_lt, nat_tests, next_stage, none_of, not, not_true, on_fill, on_write, only, opened, opens, opens_fill}
+use Rattle.law_steps.proofs.Imports.{operation, origin_by, pending_on, post_to, refl, said, same_numbers, says, second, standing, subst, sym, takes}
+use Rattle.law_steps.proofs.Imports.{takes_newer, true, true_false, was_true, with_opened, with_paired, with_pending, with_reserved, without_pending, ℕ}
 use Rattle.law_steps.specs.Operations.{IsStaged, AtRest, Waiting, Putting, Copying, waiting, putting, copying, done_to}
 use Rattle.law_steps.specs.DidLead.{Asks_for, Repeats, Is_full, Opens, Marks, Puts, Gives_up, Closes, Opens_alone, Marks_alone, Puts_alone, Unmarks_alone}
 use Rattle.law_steps.specs.DidLead.{Closes_alone, Opens_fill, Opens_fill_alone, Has_fill, Has_no_room, Goes_on_retired, Asks, A_slot, A_copy, IsNew}
@@ -62,7 +62,7 @@ module _ (heard : Body → Type 0) (here : JobContext) (own : PairState) (steady
   asks_slot op is stage = posts_ask _ _ (λ to e. A_slot op to is stage e)
 
   pub asks_copy : (op : Pending) → pending_on own op.cell ≡ Some op → op.stage ≡ copying → (post : Post)
-      → In post (post_to (second here.state op.cell) (body.Replicate op.op op.key op.version op.bytes)) → Asks here own post
+      → In post (post_to (second here.state op.cell) (body.Replicate op.op op.key op.version (origin_by here.state op) op.bytes)) → Asks here own post
   asks_copy op is stage = posts_ask _ _ (λ to e. A_copy op to is stage e)
 
   -- the next action of an operation at its lead, in Both and where the lead is alone
@@ -180,7 +180,8 @@ module _ (heard : Body → Type 0) (here : JobContext) (own : PairState) (steady
 
   pub did_write : (want : Wanted) → by_write want → D (on_write here own want)
   unfolding on_write
-  did_write want h = by_test D (is_lead here.state here.me want.cell) _ _ (λ lead. did_standing want h lead _ refl) (λ t. Ignores)
+  did_write want h = by_test D (is_lead here.state here.me want.cell && nat_lt want.client client_limit) _ _
+      (λ t. did_standing want h (both_true (is_lead here.state here.me want.cell) (nat_lt want.client client_limit) t).0 _ refl) (λ t. Ignores)
 
   -- ### The lead hears of the second server
 

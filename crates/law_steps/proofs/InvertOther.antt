@@ -1,9 +1,9 @@
 -- What a server does so that a link is brought up to date is one of the kinds that the relation names: the other server's part.
 use Rattle.law_steps.proofs.Imports.{[], ◌<◌, ◌==◌, ◌∙◌, ◌∷◌, ◌≡◌, Body, Bool, Cell, Entry, JobContext, JobResult, LastCopy, LinkId, LinkRow, List, None}
-use Rattle.law_steps.proofs.Imports.{Option, PairState, Some, answers_page, arith, by_test, cell_holder, cell_of, cell_same, epochs_beyond, false, free_of}
-use Rattle.law_steps.proofs.Imports.{hears_entry, hears_sync, hears_trim, hears_trim_of, last_copy, less_by, link_named, nat_lt, nat_tests, none_some}
-use Rattle.law_steps.proofs.Imports.{on_hello_ask, on_sync, on_trim, puts_entry, refl, same_numbers, same_some, subst, sym, trims_again, trims_first}
-use Rattle.law_steps.proofs.Imports.{trims_for, trims_newly, trims_on, true, with_last_copy, ℕ}
+use Rattle.law_steps.proofs.Imports.{Option, PairState, Some, answers_page, arith, by_test, cell_holder, cell_of, cell_same, either_false, epochs_beyond}
+use Rattle.law_steps.proofs.Imports.{false, free_of, has_room, has_stored, hears_entry, hears_sync, hears_trim, hears_trim_of, last_copy, less_by, link_named}
+use Rattle.law_steps.proofs.Imports.{nat_lt, nat_tests, none_some, on_hello_ask, on_sync, on_trim, puts_entry, refl, same_numbers, same_some, subst, sym}
+use Rattle.law_steps.proofs.Imports.{trims_again, trims_first, trims_for, trims_newly, trims_on, true, with_last_copy, ℕ}
 use Rattle.law_steps.specs.Did.{Did, Ignores, By_other}
 use Rattle.law_steps.specs.DidOther.{Replies, TrimStep, Is_trimmed, Drops_entry, IsOfCopy, first_last, Answers_page, Is_copied_to, Goes_on_trimming}
 use Rattle.law_steps.specs.DidOther.{Puts_entry, Has_entry, Has_no_slot}
@@ -87,15 +87,17 @@ module _ (heard : Body → Type 0) (here : JobContext) (own : PairState) where
   -- ### Sync
 
   did_puts : (entry : Entry) (holder : ℕ) (last : LastCopy) → IsOfCopy heard here own entry holder last → entry.index ≡ last.index → (room : Bool)
-      → nat_lt 0 (free_of own.store) ≡ room → D (puts_entry own entry last holder room)
-  did_puts entry holder last of_copy at true e = By_other _ (Puts_entry entry holder last of_copy at (less_by 0 (free_of own.store) e))
-  did_puts entry holder last of_copy at false e = By_other _ (Replies _ _ (Has_no_slot entry holder last of_copy at (no_free (free_of own.store) e)))
+      → has_room own.store entry ≡ room → D (puts_entry own entry last holder room)
+  did_puts entry holder last of_copy at true e = By_other _ (Puts_entry entry holder last of_copy at e)
+  did_puts entry holder last of_copy at false e =
+      let none = either_false (nat_lt 0 (free_of own.store)) (has_stored own.store entry.key entry.stored) e in
+      By_other _ (Replies _ _ (Has_no_slot entry holder last of_copy at (no_free (free_of own.store) none.0) none.1))
 
   did_entry : (entry : Entry) (holder : ℕ) (last : LastCopy) → IsOfCopy heard here own entry holder last → D (hears_entry own entry holder last)
   did_entry entry holder last of_copy =
       by_test D (nat_lt entry.index last.index) _ _ (λ t. By_other _ (Replies _ _ (Has_entry entry holder last of_copy (less_by entry.index last.index t))))
       (λ past. by_test D (entry.index == last.index) _ _
-      (λ same. did_puts entry holder last of_copy (same_numbers entry.index last.index same) (nat_lt 0 (free_of own.store)) refl) (λ t. Ignores))
+      (λ same. did_puts entry holder last of_copy (same_numbers entry.index last.index same) (has_room own.store entry) refl) (λ t. Ignores))
 
   did_hears_sync : (entry : Entry) → heard (body.Sync entry.op entry.key entry.stored.version entry.index entry.stored.bytes) → (held : Option ℕ)
       → cell_holder here (cell_of entry.key) ≡ held → (o : Option LastCopy) → last_copy own (cell_of entry.key) ≡ o → D (hears_sync own entry held o)

@@ -1,8 +1,8 @@
 -- What a second server does for a write is one of the kinds that the relation names.
-use Rattle.law_steps.proofs.Imports.{◌+◌, ◌<◌, ◌==◌, ◌∙◌, ◌≡◌, ◌≤◌, Body, Bool, Cell, FollowProgress, JobContext, JobResult, Key, LastOp, List, None, Option}
-use Rattle.law_steps.proofs.Imports.{PairState, Some, ap, arith, by_test, cell_of, false, follows_once, free_of, has_slot, hears_replicate, hears_reserve}
-use Rattle.law_steps.proofs.Imports.{is_second, last_on, nat_lt, nat_tests, none_some, refl, reserves, same_numbers, same_some, subst, sym, true, true_false}
-use Rattle.law_steps.proofs.Imports.{ℕ}
+use Rattle.law_steps.proofs.Imports.{◌+◌, ◌<◌, ◌==◌, ◌∙◌, ◌≡◌, ◌≤◌, Body, Bool, Cell, FollowProgress, JobContext, JobResult, Key, LastOp, List, Named, None}
+use Rattle.law_steps.proofs.Imports.{Option, PairState, Some, ap, arith, by_test, cell_of, false, follows_once, free_of, has_slot, hears_replicate}
+use Rattle.law_steps.proofs.Imports.{hears_reserve, is_second, last_on, nat_lt, nat_tests, none_some, refl, reserves, same_numbers, same_some, subst, sym}
+use Rattle.law_steps.proofs.Imports.{true, true_false, ℕ}
 use Rattle.law_steps.specs.Operations.{progress}
 use Rattle.law_steps.specs.DidSecond.{Sets_apart, Promises, Declines, Follows}
 use Rattle.law_steps.specs.Did.{Did, Ignores, By_second}
@@ -67,16 +67,17 @@ module _ (heard : Body → Type 0) (here : JobContext) (own : PairState) where
       (past_is cell number last e (newer_op last number older apart))
       (subst (λ o. progress o ≤ number + number) (sym e) (later_op last number older apart)) refl))
 
-  did_once : (number : ℕ) (key : Key) (version : ℕ) (bytes : List ℕ) (how : FollowProgress) → heard (body.Replicate number key version bytes)
-      → is_second here.state here.me (cell_of key) ≡ true → last_on own (cell_of key) ≡ Some (record { op = number; progress = how })
-      → D (follows_once here own number key bytes how)
-  did_once number key version bytes follow_progress.Reserved h s e = By_second _ (Follows number key version bytes h s e)
-  did_once number key version bytes follow_progress.Replicated h s e = By_second _ (Promises number (cell_of key) follow_progress.Replicated s e)
+  did_once : (number : ℕ) (key : Key) (version : ℕ) (origin : Option Named) (bytes : List ℕ) (how : FollowProgress)
+      → heard (body.Replicate number key version origin bytes) → is_second here.state here.me (cell_of key) ≡ true
+      → last_on own (cell_of key) ≡ Some (record { op = number; progress = how }) → D (follows_once here own number key origin bytes how)
+  did_once number key version origin bytes follow_progress.Reserved h s e = By_second _ (Follows number key version origin bytes h s e)
+  did_once number key version origin bytes follow_progress.Replicated h s e = By_second _ (Promises number (cell_of key) follow_progress.Replicated s e)
 
-  pub did_replicate : (number : ℕ) (key : Key) (version : ℕ) (bytes : List ℕ) (o : Option LastOp) → heard (body.Replicate number key version bytes)
-      → is_second here.state here.me (cell_of key) ≡ true → last_on own (cell_of key) ≡ o → D (hears_replicate here own number key bytes o)
-  did_replicate number key version bytes None h s e = Ignores
-  did_replicate number key version bytes (Some last) h s e = by_test D (number == last.op) _ _
-      (λ same. did_once number key version bytes last.progress h s
+  pub did_replicate : (number : ℕ) (key : Key) (version : ℕ) (origin : Option Named) (bytes : List ℕ) (o : Option LastOp)
+      → heard (body.Replicate number key version origin bytes) → is_second here.state here.me (cell_of key) ≡ true
+      → last_on own (cell_of key) ≡ o → D (hears_replicate here own number key origin bytes o)
+  did_replicate number key version origin bytes None h s e = Ignores
+  did_replicate number key version origin bytes (Some last) h s e = by_test D (number == last.op) _ _
+      (λ same. did_once number key version origin bytes last.progress h s
       (e ∙ λ i. Some (record { op = sym (same_numbers number last.op same) i; progress = last.progress })))
       (λ t. Ignores)

@@ -3,10 +3,10 @@ use Rattle.law_steps.proofs.Imports.{[], ◌++◌, ◌∙◌, ◌∷◌, ◌≡�
 use Rattle.law_steps.proofs.Imports.{Glanced, In, IsPrefix, IsSteady, Job, JobResult, Letter, List, Log, LogDone, MayServer, None, Option, Pending, Post}
 use Rattle.law_steps.proofs.Imports.{Sender, Server, Setting, Some, Step, Stop, StopIn, Tick, Work, WorkEnd, World, all_put, ap, applies, asks_next, boots}
 use Rattle.law_steps.proofs.Imports.{by_test, chosen_by, chosen_log, crossed, crossing, does, entered, false, first_wanted, glance_sender, glances}
-use Rattle.law_steps.proofs.Imports.{has_proposed, in-append, inl, inr, is_log_job, is_logged, is_overfull, job_done, known, letters_of, link_jobs, log_does}
-use Rattle.law_steps.proofs.Imports.{log_rev, next_place, only, pending_on, proposed, put_at, put_same, raised, refl, rev_of, sender, server_state}
-use Rattle.law_steps.proofs.Imports.{server_step, settled_by, silent, stage_jobs, stages_only, starts, stays, stops, subject_of, subst, sym, tick_jobs}
-use Rattle.law_steps.proofs.Imports.{tick_only, tick_posts, true, true_false, voter_of, wanted_by, worked, works, ℕ}
+use Rattle.law_steps.proofs.Imports.{has_full_log, has_proposed, in-append, inl, inr, is_log_job, is_logged, is_overfull, job_done, known, letters_of}
+use Rattle.law_steps.proofs.Imports.{link_jobs, log_does, log_rev, next_place, only, pending_on, proposed, put_at, put_same, raised, refl, rev_of, sender}
+use Rattle.law_steps.proofs.Imports.{server_state, server_step, settled_by, silent, stage_jobs, stages_only, starts, stays, stops, subject_of, subst, sym}
+use Rattle.law_steps.proofs.Imports.{tick_jobs, tick_only, tick_posts, true, true_false, voter_of, wanted_by, worked, works, ℕ}
 use Rattle.spec_rules.specs.World.{acts}
 use Rattle.law_steps.specs.Ready.{Rests}
 use Rattle.law_steps.specs.Operations.{IsStaged}
@@ -226,11 +226,11 @@ module _ (it : KnownServer) where
       (by_test (λ (who : Sender). who.from ≡ actor.Server n) server.life.running _ _ (λ t. refl) (λ t. refl)) (λ post i. absurd i)
 
   boots_serve : (end : WorkEnd) → server.life.running ≡ false → S (Boot end) (boots here server end)
-  boots_serve work_end.Done rests = by_test (S (Boot work_end.Done)) (is_overfull (raised server)) _ _
+  boots_serve work_end.Done rests = by_test (S (Boot work_end.Done)) (has_full_log (raised server)) _ _
       (λ full. stays_serve (Boot work_end.Done)) (λ room. Wakes refl rests)
   boots_serve (work_end.Fault Before) rests = stays_serve (Boot (work_end.Fault Before))
   boots_serve (work_end.Fault After) rests =
-      by_test (λ (x : Server). S (Boot (work_end.Fault After)) (stays x)) (is_overfull (raised server)) _ _
+      by_test (λ (x : Server). S (Boot (work_end.Fault After)) (stays x)) (has_full_log (raised server)) _ _
       (λ full. stays_serve (Boot (work_end.Fault After))) (λ room. Fails refl rests)
 
   step_serves : (what : Step) → is_blank what ≡ false → MayServer what setting w n → F what (server_step what (server_state setting w n) n server)

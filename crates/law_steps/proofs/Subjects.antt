@@ -175,7 +175,7 @@ module _ (heard : Body → Type 0) (here : JobContext) (own : PairState) where
   of_second _ (Promises number cell how s is) = told own cell number how refl refl refl refl
   of_second _ (Declines number cell h s no_room) =
       record { pending = refl; next = refl; finished = refl; copies = refl; no_jobs = refl; says = λ post i. ap subject_of (posted _ _ post i) }
-  of_second _ (Follows number key version bytes h s is) = told _ _ number follow_progress.Replicated refl refl refl refl
+  of_second _ (Follows number key version origin bytes h s is) = told _ _ number follow_progress.Replicated refl refl refl refl
 
   filled : (to : PairState) (posts : List Post) → to.pairs ≡ own.pairs → to.store ≡ own.store → to.copies.progress ≡ own.copies.progress
       → to.copies.pending ≡ own.copies.pending → to.copies.last ≡ own.copies.last

@@ -3,7 +3,7 @@ use Rattle.law_steps.proofs.Imports.{[], ◌++◌, ◌∷◌, ◌≡◌, Action,
 use Rattle.law_steps.proofs.Imports.{Stage, Stored, alone_action, ask_posts, awaited, ballot_posts, both_action, by_bool, by_test, cell_cmp, cell_cmp_total}
 use Rattle.law_steps.proofs.Imports.{chain_in, copies_again, copy_awaited, copy_posts, copy_stage, copying_on, epochs_of, false, fill_posts, fills_row}
 use Rattle.law_steps.proofs.Imports.{flat_map, has_proposed, in-append, in_both, inl, inr, is_in, is_logged, key_at, leads_link, length, live, mark_left}
-use Rattle.law_steps.proofs.Imports.{nat_lt, next_copy, next_stage, not, not_true, only, option_map_or, other_in, page_asked, page_for, page_posts}
+use Rattle.law_steps.proofs.Imports.{nat_lt, next_copy, next_stage, not, not_true, only, option_map_or, origin_by, other_in, page_asked, page_for, page_posts}
 use Rattle.law_steps.proofs.Imports.{pending_on, post_to, refl, second, sends_entry, sent_again, slice_get, subject_of, subst, sym, tick_posts, true}
 use Rattle.law_steps.proofs.Imports.{true_false, voter_of, was_true, ℕ}
 use Rattle.law_steps.specs.Operations.{IsStaged, Waiting, Putting, Copying, waiting, putting, copying}
@@ -52,7 +52,8 @@ module _ (it : KnownServer) where
   retired_sends : (op : Pending) → second here.state op.cell ≡ None → (next : Action) (post : Post) → In post (awaited here own op next) → ⊥
   unfolding In
   retired_sends op none action.Reserve post i = subst (λ o. In post (post_to o (body.Reserve op.op op.cell))) none i
-  retired_sends op none action.Replicate post i = subst (λ o. In post (post_to o (body.Replicate op.op op.key op.version op.bytes))) none i
+  retired_sends op none action.Replicate post i =
+      subst (λ o. In post (post_to o (body.Replicate op.op op.key op.version (origin_by here.state op) op.bytes))) none i
   retired_sends op none _ post i = i
 
   asked_again : (op : Pending) → pending_on own op.cell ≡ Some op → (post : Post) → In post (sent_again here own op) → A post

@@ -1,10 +1,10 @@
 -- What the holder of a link, whose other server is In again, may have done so that the link is brought up to date; and what either
--- server of a link in Both may have done with an old mark. With what was so when it was done, by its own state.
+-- server of a link in Both may have done with old marks. With what was so when it was done, by its own state.
 use Rattle.law_steps.specs.Imports.{Block, Body, Both, Cell, Copying, JobContext, JobResult, LinkId, LinkRow, MarkKind, PairState, Stored, begins_copy}
-use Rattle.law_steps.specs.Imports.{cell_at, chain_in, closes, copying_on, epochs_of, id_of, idle_mark, key_at, link_named, mark_left, next_copy, other_in}
+use Rattle.law_steps.specs.Imports.{chain_in, closes, copying_on, epochs_of, id_of, idle_cells, key_at, link_named, mark_left, next_copy, other_in}
 use Rattle.law_steps.specs.Imports.{page_wanted, progress_on, same_block, says_to, silent, tells_other, turns_page, with_copying, with_full, without_copying}
-use Rattle.law_steps.specs.Imports.{without_mark_on}
-use Rattle.std.specs.Prelude.{[], ◌+◌, ◌<◌, ◌∷◌, ◌≡◌, ◌≤◌, None, Option, Some, false, length, slice_get, true, ℕ}
+use Rattle.law_steps.specs.Imports.{unmark_all_on, without_mark_on}
+use Rattle.std.specs.Prelude.{[], ◌+◌, ◌<◌, ◌∷◌, ◌≡◌, ◌≤◌, List, None, Option, Some, false, length, slice_get, true, ℕ}
 use Rattle.petal_msg.specs.declared.body.Body.TheVariants as body
 use Rattle.spec_rules.specs.declared.job.Job.TheVariants as job
 
@@ -57,10 +57,10 @@ pub data DidHolder (heard : Body → Type 0) (here : JobContext) (own : PairStat
   Finds_it_full : (cell : Cell) (copy : Copying) → heard (body.SyncFull copy.op cell) → copying_on own cell ≡ Some copy → copy.trimmed ≡ true
       → copy.index < length (chain_in own.store.chains cell)
       → DidHolder heard here own (silent (with_full (without_copying own cell) true))
-  Tidies : (id : LinkId) (row : LinkRow) (block : ℕ) (kind : MarkKind) → link_named here.state id ≡ Some row → row.state ≡ Both
-      → idle_mark here.state row own ≡ Some block → mark_left own.store (cell_at row block) ≡ Some kind
+  Tidies : (id : LinkId) (row : LinkRow) (kind : MarkKind) (cells : List Cell) → link_named here.state id ≡ Some row → row.state ≡ Both
+      → idle_cells here.state row own kind ≡ cells
       → DidHolder heard here own (record {
-        own = record own { store = without_mark_on own.store kind (cell_at row block) };
+        own = record own { store = unmark_all_on own.store kind cells };
         posts = [];
         jobs = job.Repair (id_of row) ∷ [];
       })

@@ -4,9 +4,9 @@
 use Rattle.law_steps.specs.Imports.{Body, Busy, Cell, Copying, Finished, In, JobContext, JobResult, Key, LinkRow, Moving, PairState, Pending, Post, Stale}
 use Rattle.law_steps.specs.Imports.{Stored, Wanted, acts, at, cell_link, cell_of, chain_in, copying_on, ended, ends, epochs_of, fill_operation, finishes}
 use Rattle.law_steps.specs.Imports.{free_of, gives_back, has_proposed, held, in_both, is_alone_on, is_in, is_lead, is_logged, is_writes_held, key_at, lead}
-use Rattle.law_steps.specs.Imports.{live, marks, next_fill, next_stage, old_lead, opened, operation, other_in, page_wanted, pending_on, progress_on, puts}
-use Rattle.law_steps.specs.Imports.{region_to_move, says, says_to, second, subject_of, target, unmarks, with_opened, with_pending, with_reserved}
-use Rattle.law_steps.specs.Imports.{without_pending}
+use Rattle.law_steps.specs.Imports.{live, marks, next_fill, next_stage, old_lead, opened, operation, origin_by, other_in, page_wanted, pending_on}
+use Rattle.law_steps.specs.Imports.{progress_on, puts, region_to_move, says, says_to, second, subject_of, target, unmarks, with_opened, with_pending}
+use Rattle.law_steps.specs.Imports.{with_reserved, without_pending}
 use Rattle.std.specs.Prelude.{[], ◌<◌, ◌≡◌, ◌≤◌, Bool, List, None, Option, Some, false, is_some, option_and_then, slice_get, true, ℕ}
 use Rattle.std.specs.Ordering.{nat_cmp}
 use Rattle.law_steps.specs.Operations.{waiting, putting, copying, done_to}
@@ -42,7 +42,7 @@ pub data Asks (here : JobContext) (own : PairState) : Post → Type 0 where
   A_slot : (op : Pending) (to : ℕ) → pending_on own op.cell ≡ Some op → op.stage ≡ waiting → second here.state op.cell ≡ Some to
       → Asks here own (record { to = actor.Server to; body = body.Reserve op.op op.cell })
   A_copy : (op : Pending) (to : ℕ) → pending_on own op.cell ≡ Some op → op.stage ≡ copying → second here.state op.cell ≡ Some to
-      → Asks here own (record { to = actor.Server to; body = body.Replicate op.op op.key op.version op.bytes })
+      → Asks here own (record { to = actor.Server to; body = body.Replicate op.op op.key op.version (origin_by here.state op) op.bytes })
   A_trim : (cell : Cell) (copy : Copying) (to : ℕ) → copying_on own cell ≡ Some copy → copy.trimmed ≡ false → other_on here cell ≡ Some to
       → Asks here own (record { to = actor.Server to; body = body.Trim copy.op cell (epochs_of (chain_in own.store.chains cell)) })
   A_copied_entry : (cell : Cell) (copy : Copying) (row : ℕ × Stored) (to : ℕ) → copying_on own cell ≡ Some copy → copy.trimmed ≡ true
@@ -113,7 +113,7 @@ pub data DidLead (heard : Body → Type 0) (here : JobContext) (own : PairState)
       → op.stage ≡ waiting
       → DidLead heard here own (marks (with_pending own (with_reserved op)) (with_reserved op) Busy)
   Puts : (op : Pending) → pending_on own op.cell ≡ Some op → in_both here.state op.cell ≡ true → op.stage ≡ putting
-      → DidLead heard here own (puts own op)
+      → DidLead heard here own (puts here own op)
   Closes : (op : Pending) → heard (body.Replicated op.op op.cell) → pending_on own op.cell ≡ Some op → in_both here.state op.cell ≡ true
       → op.stage ≡ copying
       → DidLead heard here own (ends here (without_pending own op.cell) op op.kind ending.Written)
@@ -123,7 +123,7 @@ pub data DidLead (heard : Body → Type 0) (here : JobContext) (own : PairState)
       → DidLead heard here own (marks now op Stale)
   Puts_alone : (now : PairState) (op : Pending) → Taken own now op → is_alone_on here.state here.me op.cell ≡ true → op.stage.stale ≡ true
       → op.stage.put ≡ false
-      → DidLead heard here own (puts now op)
+      → DidLead heard here own (puts here now op)
   Unmarks_alone : (now : PairState) (op : Pending) → Taken own now op → is_alone_on here.state here.me op.cell ≡ true → op.stage.stale ≡ true
       → op.stage.put ≡ true → op.stage.busy ≡ true
       → DidLead heard here own (unmarks now op Busy)

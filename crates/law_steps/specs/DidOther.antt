@@ -1,9 +1,9 @@
 -- What the other server of a link that one server holds alone may have done so that it is brought up to date, with what was so when it
 -- was done, by its own state.
 use Rattle.law_steps.specs.Imports.{Body, Cell, Entry, JobContext, JobResult, LastCopy, LinkId, LinkRow, PairState, above, cell_holder, cell_of}
-use Rattle.law_steps.specs.Imports.{epochs_beyond, free_of, holder_of, key_at, last_copy, least, link_named, marked_blocks, puts_entry, says_to}
-use Rattle.law_steps.specs.Imports.{with_last_copy, without_entry}
-use Rattle.std.specs.Prelude.{[], ◌<◌, ◌∷◌, ◌≡◌, List, Option, Some, filter, true, ℕ}
+use Rattle.law_steps.specs.Imports.{epochs_beyond, free_of, has_room, has_stored, holder_of, key_at, last_copy, least, link_named, marked_blocks, puts_entry}
+use Rattle.law_steps.specs.Imports.{says_to, with_last_copy, without_entry}
+use Rattle.std.specs.Prelude.{[], ◌<◌, ◌∷◌, ◌≡◌, List, Option, Some, false, filter, true, ℕ}
 use Rattle.petal_msg.specs.declared.body.Body.TheVariants as body
 use Rattle.spec_rules.specs.declared.job.Job.TheVariants as job
 
@@ -34,7 +34,7 @@ pub data OtherReply (heard : Body → Type 0) (here : JobContext) (own : PairSta
   Has_entry : (entry : Entry) (holder : ℕ) (last : LastCopy) → IsOfCopy heard here own entry holder last → entry.index < last.index
       → OtherReply heard here own (Some holder) (body.Synced entry.op (cell_of entry.key) entry.index)
   Has_no_slot : (entry : Entry) (holder : ℕ) (last : LastCopy) → IsOfCopy heard here own entry holder last → entry.index ≡ last.index → free_of own.store ≡ 0
-      → OtherReply heard here own (Some holder) (body.SyncFull entry.op (cell_of entry.key))
+      → has_stored own.store entry.key entry.stored ≡ false → OtherReply heard here own (Some holder) (body.SyncFull entry.op (cell_of entry.key))
 
 -- what the other server may have done that handled only such letters as `heard` knows
 pub data DidOther (heard : Body → Type 0) (here : JobContext) (own : PairState) : JobResult → Type 0 where
@@ -44,5 +44,5 @@ pub data DidOther (heard : Body → Type 0) (here : JobContext) (own : PairState
       → TrimStep (with_last_copy own cell (first_last number epochs)) cell (first_last number epochs) holder done → DidOther heard here own done
   Goes_on_trimming : (cell : Cell) (holder : ℕ) (last : LastCopy) (done : JobResult) → cell_holder here cell ≡ Some holder → last_copy own cell ≡ Some last
       → TrimStep own cell last holder done → DidOther heard here own done
-  Puts_entry : (entry : Entry) (holder : ℕ) (last : LastCopy) → IsOfCopy heard here own entry holder last → entry.index ≡ last.index → 0 < free_of own.store
-      → DidOther heard here own (puts_entry own entry last holder true)
+  Puts_entry : (entry : Entry) (holder : ℕ) (last : LastCopy) → IsOfCopy heard here own entry holder last → entry.index ≡ last.index
+      → has_room own.store entry ≡ true → DidOther heard here own (puts_entry own entry last holder true)

@@ -1,7 +1,7 @@
 -- What the second server of a cell may have done for a write, rule by rule, with what was so when it was done.
-use Rattle.law_steps.specs.Imports.{Body, Cell, FollowProgress, JobContext, JobResult, Key, LastOp, PairState, cell_of, first, follows, free_of, is_second}
-use Rattle.law_steps.specs.Imports.{last_on, says_to, tells, with_last}
-use Rattle.std.specs.Prelude.{◌+◌, ◌<◌, ◌≡◌, ◌≤◌, List, Some, true, ℕ}
+use Rattle.law_steps.specs.Imports.{Body, Cell, FollowProgress, JobContext, JobResult, Key, LastOp, Named, PairState, cell_of, first, follows, free_of}
+use Rattle.law_steps.specs.Imports.{is_second, last_on, says_to, tells, with_last}
+use Rattle.std.specs.Prelude.{List, Option, Some, true, ℕ, ◌+◌, ◌<◌, ◌≡◌, ◌≤◌}
 use Rattle.law_steps.specs.Operations.{progress}
 use Rattle.petal_msg.specs.declared.body.Body.TheVariants as body
 use Rattle.petal_msg.specs.declared.operation.FollowProgress.TheVariants as follow_progress
@@ -27,6 +27,6 @@ pub data DidSecond (heard : Body → Type 0) (here : JobContext) (own : PairStat
       → DidSecond heard here own (tells here own cell number how)
   Declines : (number : ℕ) (cell : Cell) → heard (body.Reserve number cell) → is_second here.state here.me cell ≡ true → FoundNoSlot own cell number
       → DidSecond heard here own (says_to own (first here.state cell) (body.PairFull number cell))
-  Follows : (number : ℕ) (key : Key) (version : ℕ) (bytes : List ℕ) → heard (body.Replicate number key version bytes)
+  Follows : (number : ℕ) (key : Key) (version : ℕ) (origin : Option Named) (bytes : List ℕ) → heard (body.Replicate number key version origin bytes)
       → is_second here.state here.me (cell_of key) ≡ true → last_on own (cell_of key) ≡ Some (record { op = number; progress = follow_progress.Reserved })
-      → DidSecond heard here own (follows here own number key bytes)
+      → DidSecond heard here own (follows here own number key origin bytes)

@@ -14,6 +14,7 @@ pub use Rattle.law_state.specs.LaterStates.{IsBelow}
 pub use Rattle.law_state.specs.LinkChanges.{StaysSo}
 pub use Rattle.law_state.specs.Plain.{HasProperTuples}
 pub use Rattle.petal_base.specs.Cells.{cell_of, key_at}
+pub use Rattle.petal_base.specs.Origins.{Named}
 pub use Rattle.petal_base.specs.declared.cell.Key.{Key}
 pub use Rattle.petal_msg.specs.Kinds.{Copied, Glanced, Paired, Refused, Subject, is_logged, subject_of}
 pub use Rattle.petal_msg.specs.declared.body.Body.{Body}
@@ -39,8 +40,8 @@ pub use Rattle.spec_rules.specs.Boots.{awake, blanked, known_prefix, raised, sta
 pub use Rattle.spec_rules.specs.Clients.{Asked, Client, Reaction, Sight, answers, command_of, epoch_for, is_read, is_witness, is_write, verdict_for}
 pub use Rattle.spec_rules.specs.Clients.{with_sight}
 unfoldable pub use Rattle.spec_rules.specs.Clients.{refusal}
-pub use Rattle.spec_rules.specs.Copies.{Entry, begins_copy, cell_at, cell_holder, closes, epochs_beyond, idle_mark, least, marked_blocks, page_wanted}
-pub use Rattle.spec_rules.specs.Copies.{puts_entry, same_block, tells_other, turns_page}
+pub use Rattle.spec_rules.specs.Copies.{Entry, begins_copy, cell_at, cell_holder, closes, epochs_beyond, has_room, idle_blocks, idle_cells, least}
+pub use Rattle.spec_rules.specs.Copies.{marked_blocks, page_wanted, puts_entry, same_block, tells_other, turns_page}
 unfoldable pub use Rattle.spec_rules.specs.Copies.{next_copy}
 pub use Rattle.spec_rules.specs.Crossing.{crossed, settled_by}
 pub use Rattle.spec_rules.specs.Fills.{Moving, fill_operation, link_before, region_to_move, with_filled}
@@ -52,13 +53,14 @@ pub use Rattle.spec_rules.specs.Reads.{is_all_held}
 pub use Rattle.spec_rules.specs.Returns.{proposed}
 pub use Rattle.spec_rules.specs.Server.{JobContext, JobResult, Post, Sender, letters_of, says, says_to, sender, silent, stopped}
 pub use Rattle.spec_rules.specs.State.{coming, first, holder_of, id_of, in_both, is_alone_on, is_second, lead, link_named, live, other_in, readable, second}
-pub use Rattle.spec_rules.specs.Store.{Stored, bytes_of, cell_cmp, chain_in, entry_at, epochs_of, free_of, mark_left, without_entry, without_mark_on}
+pub use Rattle.spec_rules.specs.Store.{Stored, bytes_of, cell_cmp, chain_in, entry_at, epochs_of, free_of, has_stored, mark_left, unmark_all_on, without_entry}
+pub use Rattle.spec_rules.specs.Store.{without_mark_on}
 pub use Rattle.spec_rules.specs.Sweeping.{without_retired}
 unfoldable pub use Rattle.spec_rules.specs.Sweeping.{next_retired}
 pub use Rattle.spec_rules.specs.World.{before_blanks, lines_of, next_line, reacts, server_state}
 pub use Rattle.spec_rules.specs.Writes.{Wanted, acts, ended, ends, finishes, first_stage, follows, gives_back, is_for, is_under_way, last_on, marks}
-pub use Rattle.spec_rules.specs.Writes.{next_stage, old_lead, opened, operation, pending_on, puts, tells, unmarks, with_last, with_opened, with_pending}
-pub use Rattle.spec_rules.specs.Writes.{with_reserved, without_pending}
+pub use Rattle.spec_rules.specs.Writes.{next_stage, old_lead, opened, operation, origin_by, pending_on, puts, tells, unmarks, with_last, with_opened}
+pub use Rattle.spec_rules.specs.Writes.{with_pending, with_reserved, without_pending}
 pub use Rattle.spec_rules.specs.declared.job.Job.{Job}
 pub use Rattle.spec_rules.specs.declared.step.CommitEnd.TheVariants.{After}
 pub use Rattle.spec_rules.specs.declared.step.Step.{Step}

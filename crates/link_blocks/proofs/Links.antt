@@ -1,18 +1,20 @@
 -- The blocks of a link among those of its map.
-use Rattle.std.proofs.Common.{◌≡◌, inl, inr, ℕ, ◌==◌, ◌++◌, not, Bool, true, false, List, [], ◌∷◌, Option, None, refl, sym, ap, ◌∙◌, arith}
+use Rattle.std.proofs.Common.{◌≡◌, inl, inr, ℕ, ◌==◌, ◌++◌, ◌&&◌, not, Bool, true, false, List, [], ◌∷◌, Option, refl, sym, ap, ◌∙◌, arith}
+use Rattle.std.proofs.Common.{Some, None, zero, suc}
 use Rattle.std.proofs.lemmas.Bool.{cases_Bool}
 use Rattle.std.proofs.lemmas.Bool.Decides.{nat_tests}
 use Rattle.std.proofs.lemmas.List.{append-nil}
 use Rattle.std.specs.Prelude.{filter, if◌then◌else◌}
 use Rattle.busy_marks.specs.declared.marks.Mark.{Mark}
+use Rattle.busy_marks.specs.declared.marks.MarkKind.{MarkKind}
 use Rattle.busy_marks.specs.Marks.{above, lesser}
 use Rattle.global_tables.specs.declared.link.LinkRow.{LinkRow}
 use Rattle.petal_base.specs.declared.cell.Cell.{Cell}
 use Rattle.petal_table.specs.Table.{Table}
-use Rattle.spec_rules.specs.Copies.{cell_at, idle_mark, is_kept_on, least}
+use Rattle.spec_rules.specs.Copies.{cell_at, idle_from, is_kept_on, least, next_idle}
 use Rattle.spec_rules.specs.Server.{PairState}
 use Rattle.spec_rules.specs.State.{State, is_on, needs_full_copy}
-use Rattle.spec_rules.specs.Store.{Chain}
+use Rattle.spec_rules.specs.Store.{Chain, is_marked}
 use Rattle.spec_rules.specs.Writes.{is_under_way}
 use Rattle.pair_memory.specs.Walking.{marked_in, stored_in}
 use Rattle.pair_memory.proofs.Linked.{on_map}
@@ -63,15 +65,28 @@ stored_is state row (r ∷ rs) =
       | inr own ↦ rw (own, off_link state row r.0 own) rest
     ]
 
--- the least mark on which nothing is under way
-pub idle_is : (state : State) (row : LinkRow) (own : PairState)
-    → least (filter (above None) (filter (idle_on state row own) (marked_in row.map own.store.marks))) ≡ idle_mark state row own
-idle_is state row own =
-    ap least (
-    from_start (filter (idle_on state row own) (marked_in row.map own.store.marks))
-    ∙ sym (filter_both (on_link state row) (λ block. not (is_under_way own (cell_at row block))) (marked_in row.map own.store.marks))
-    ∙ ap (filter (λ block. not (is_under_way own (cell_at row block)))) (sym (marked_is state row own.store.marks))
-    )
+-- the next mark on which nothing is under way
+pub idle_is : (state : State) (row : LinkRow) (own : PairState) (kind : MarkKind) (after : Option ℕ)
+    → least (filter (above after) (filter (idle_on state row own kind) (marked_in row.map own.store.marks))) ≡ next_idle state row own kind after
+idle_is state row own kind after =
+    let idle : ℕ → Bool = λ block. is_marked own.store kind (cell_at row block) && not (is_under_way own (cell_at row block)) in
+    ap (λ (blocks : List ℕ). least (filter (above after) blocks))
+    (sym (filter_both (on_link state row) idle (marked_in row.map own.store.marks)) ∙ ap (filter idle) (sym (marked_is state row own.store.marks)))
+
+-- ### The cells with old marks
+
+module _ (state : State) (row : LinkRow) (own : PairState) (kind : MarkKind) where
+  -- where there is room for one more, the next one is the first
+  pub idle_more : (room left : ℕ) → room ≡ suc left → (next : Option ℕ) (block : ℕ) → next ≡ Some block
+      → idle_from state row own kind room next ≡ cell_at row block ∷ idle_from state row own kind left (next_idle state row own kind (Some block))
+  idle_more room left is next block some = rw (is, some) refl
+
+  pub idle_none : (room : ℕ) (next : Option ℕ) → next ≡ None → idle_from state row own kind room next ≡ []
+  idle_none zero next none = refl
+  idle_none (suc room) next none = rw none refl
+
+  pub idle_full : (room : ℕ) (next : Option ℕ) → room ≡ 0 → idle_from state row own kind room next ≡ []
+  idle_full room next full = rw full refl
 
 module _ (state : State) (row : LinkRow) (marks : List Mark) (chains : Table Cell Chain) (copied : Option ℕ) where
   pub left_plain : needs_full_copy row.state ≡ false → least (filter (above None) (marked_on state row marks)) ≡ least (left_on state row marks chains copied)

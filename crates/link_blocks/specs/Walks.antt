@@ -1,6 +1,7 @@
 -- The blocks of a link here.
 use Rattle.std.specs.Prelude.{ℕ, ◌-◌, ◌^◌, ◌++◌, ◌&&◌, not, Bool, List, [], map, filter, if◌then◌else◌, Option, None, Some}
 use Rattle.busy_marks.specs.declared.marks.Mark.{Mark}
+use Rattle.busy_marks.specs.declared.marks.MarkKind.{MarkKind}
 use Rattle.busy_marks.specs.Marks.{above}
 use Rattle.global_tables.specs.declared.link.LinkRow.{LinkRow}
 use Rattle.petal_base.specs.declared.cell.Cell.{Cell}
@@ -8,7 +9,7 @@ use Rattle.petal_table.specs.Table.{Table}
 use Rattle.spec_rules.specs.Copies.{cell_at, is_kept_on}
 use Rattle.spec_rules.specs.Server.{PairState}
 use Rattle.spec_rules.specs.State.{State, needs_full_copy}
-use Rattle.spec_rules.specs.Store.{Chain, Store}
+use Rattle.spec_rules.specs.Store.{Chain, Store, is_marked}
 use Rattle.spec_rules.specs.Writes.{is_under_way}
 use Rattle.pair_memory.specs.PairMemory.{PairMemory, pairs_of}
 
@@ -33,9 +34,10 @@ on_link state row block = is_kept_on state row (cell_at row block)
 abbrev pub side_own : PairMemory → Store → PairState
 side_own side store = record { pairs = pairs_of side; copies = side.copies; filled = side.filled; store = store }
 
--- and nothing is under way on it
-abbrev pub idle_on : State → LinkRow → PairState → ℕ → Bool
-idle_on state row own block = is_kept_on state row (cell_at row block) && not (is_under_way own (cell_at row block))
+-- and it has a mark of this kind without anything under way
+abbrev pub idle_on : State → LinkRow → PairState → MarkKind → ℕ → Bool
+idle_on state row own kind block =
+    is_kept_on state row (cell_at row block) && (is_marked own.store kind (cell_at row block) && not (is_under_way own (cell_at row block)))
 
 -- how many numbers of blocks are above this one
 abbrev pub room_above : Option ℕ → ℕ

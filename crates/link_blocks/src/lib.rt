@@ -15,4 +15,4 @@ pub use caught::caught_links;
 pub use follow::followed;
 pub use next::next_copy;
 pub use roles::{holder_on, other_in, other_on};
-pub use walk::{cell_at, idle_mark, marked_above};
+pub use walk::{UNMARKS_LIMIT, cell_at, idle_marks, marked_above, next_idle};

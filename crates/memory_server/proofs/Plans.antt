@@ -3,19 +3,19 @@ use Rattle.std.proofs.Common.{◌≡◌, ◌≢◌, ◌⊎◌, ◌<◌, ◌+◌,
 use Rattle.std.specs.Prelude.{◌||◌, not}
 use Rattle.device_faults.specs.declared.plan.Plan.{Plan}
 use Rattle.device_faults.specs.declared.which.Which.TheVariants.{Data, State}
-use Rattle.petal_disk.specs.PlanRuns.{CameTo-same}
-use Rattle.petal_disk.specs.Plans.{CameTo, MetOnce, PlanState, WaitsOn, plan_state}
+use Rattle.petal_disk.specs.PlanRuns.{CameTo-later, CameTo-same}
+use Rattle.petal_disk.specs.Plans.{CameTo, MetOnce, PlanState, WaitsOn, beneath, plan_state}
 use Rattle.petal_disk.specs.declared.planned.Planned.{Planned}
 use Rattle.spec_rules.specs.declared.step.CommitEnd.{CommitEnd}
 use Rattle.spec_rules.specs.declared.step.Step.{Step}
-use Rattle.spec_rules.specs.declared.step.Step.TheVariants.{Boot, StopIn}
+use Rattle.spec_rules.specs.declared.step.Step.TheVariants.{Boot, StopIn, Work}
 use Rattle.spec_rules.specs.declared.step.WorkEnd.{WorkEnd}
 use Rattle.spec_rules.specs.declared.step.WorkEnd.TheVariants.{Done, Fault}
 use Rattle.memory_server.specs.Ends.{job_end}
 use Rattle.memory_server.specs.Server.{Mounted}
 use Rattle.server_host.specs.Desks.{IsFault, as_end, boot_end, job_ended}
 use Rattle.spec_rules.specs.Plans.{AreLeftOf, Armed, IsLeftOf, LeavesPlans, Spends, Uses}
-use Rattle.memory_server.specs.Armed.{BothCameTo, armed_of, stops_of}
+use Rattle.memory_server.specs.Armed.{BothCameTo, LeavesPlansOver, armed_of, faults_beneath, stops_of}
 use Rattle.memory_server.specs.contracts.taken.StopsPartialEq.TheImpl as flags
 use Rattle.memory_server.specs.declared.taken.Stops.{Stops}
 
@@ -69,8 +69,23 @@ left_same (Some plan) = (plan, refl, refl)
 pub are_same : (armed : Armed) → AreLeftOf armed armed
 are_same armed = record { stored = left_same armed.stored; kept = left_same armed.kept }
 
+-- a blank device without a plan takes the place of the data device
+pub blank_left : {D : Type 0} (before was : Mounted (Planned D)) (disk : Planned D) → was ≡ before → (plan_state disk).plan ≡ None
+    → AreLeftOf (armed_of before) (record { stored = (plan_state disk).plan; kept = (plan_state was.state.disk).plan })
+blank_left {D} before was disk same gone = record {
+  stored = gone_left (plan_state before.store.disk).plan (plan_state disk).plan gone;
+  kept = subst (λ (it : Mounted (Planned D)). IsLeftOf (plan_state before.state.disk).plan (plan_state it.state.disk).plan) (sym same)
+      (left_same (plan_state before.state.disk).plan);
+}
+
 pub both_rest : {D : Type 0} (server : Mounted (Planned D)) → BothCameTo server server
 both_rest server = record { stored = CameTo-same (plan_state server.store.disk); kept = CameTo-same (plan_state server.state.disk) }
+
+pub both_later : {D : Type 0} (first mid last : Mounted (Planned D)) → BothCameTo first mid → BothCameTo mid last → BothCameTo first last
+both_later first mid last one two = record {
+  stored = CameTo-later (plan_state first.store.disk) (plan_state mid.store.disk) (plan_state last.store.disk) one.stored two.stored;
+  kept = CameTo-later (plan_state first.state.disk) (plan_state mid.state.disk) (plan_state last.state.disk) one.kept two.kept;
+}
 
 -- a step that uses up no plan
 pub uses_none : {what : Step} {before now : Armed} → ((armed left : Armed) → left ≡ armed → Uses what armed left) → AreLeftOf before now
@@ -90,9 +105,11 @@ flags_apart now before differs same =
     = ap (λ (it : Stops). flags.ghosts.eq it before) same ∙ flags_itself before.stored before.kept in
     let no : false ≡ true = sym (ap not equal) ∙ differs in cc
 
--- how often plans have made calls fail
-abbrev pub strikes_of : {D : Type 0} → Mounted (Planned D) → ℕ
-strikes_of server = (plan_state server.store.disk).strikes + (plan_state server.state.disk).strikes
+-- how often calls of both devices have failed, beneath the plans and by them
+abbrev pub failures : {D : Type 0} → (D → ℕ) → Mounted (Planned D) → ℕ
+failures faults server =
+    faults (beneath server.store.disk) + (plan_state server.store.disk).strikes
+    + (faults (beneath server.state.disk) + (plan_state server.state.disk).strikes)
 
 module _ {D : Type 0} (old new : Mounted (Planned D)) (came : BothCameTo old new) where
   abbrev before : Armed
@@ -127,14 +144,23 @@ module _ {D : Type 0} (old new : Mounted (Planned D)) (came : BothCameTo old new
     spends : Spends before used
     rest : AreLeftOf used now
 
-  -- where calls failed, one of them met its plan
-  spent : strikes_of old < strikes_of new → Spent
-  spent more = by came.stored came.kept
+  -- where calls failed, one of them met its plan, or a device beneath failed
+  spent : (faults : D → ℕ) → failures faults old < failures faults new → Spent ⊎ (faults_beneath faults old < faults_beneath faults new)
+  spent faults more = by came.stored came.kept
     where
-      by : CameTo (plan_state old.store.disk) (plan_state new.store.disk) → CameTo (plan_state old.state.disk) (plan_state new.state.disk) → Spent
-      by (inr met) other = record { used = record before { stored = None }; spends = stored_spends met; rest = stored_left met }
-      by (inl waited) (inr met) = record { used = record before { kept = None }; spends = kept_spends met; rest = kept_left met }
-      by (inl waited) (inl rests) = absurd (let same = waited.strikes in let other = rests.strikes in omega (arith, more, same, other))
+      by : CameTo (plan_state old.store.disk) (plan_state new.store.disk) → CameTo (plan_state old.state.disk) (plan_state new.state.disk)
+          → Spent ⊎ (faults_beneath faults old < faults_beneath faults new)
+      by (inr met) other = inl (record { used = record before { stored = None }; spends = stored_spends met; rest = stored_left met })
+      by (inl waited) (inr met) = inl (record { used = record before { kept = None }; spends = kept_spends met; rest = kept_left met })
+      by (inl waited) (inl rests) = inr (let same = waited.strikes in let other = rests.strikes in omega (arith, more, same, other))
+
+  -- so of a step that is a fault where a plan was met
+  spent_by : (faults : D → ℕ) (what : Step) → ((armed left : Armed) → Spends armed left → Uses what armed left)
+      → failures faults old < failures faults new → LeavesPlansOver faults what old new
+  spent_by faults what uses more = elim (spent faults more) [
+    | inl it ↦ inl (record { used = it.used; uses = uses before it.used it.spends; rest = it.rest })
+    | inr beneath ↦ inr (beneath, are_left)
+  ]
 
   -- so where the server was stopped, by a plan that stops it
   stopped_by : (commit : CommitEnd) → stops_of new ≢ stops_of old → LeavesPlans (StopIn commit) before now
@@ -157,13 +183,20 @@ module _ {D : Type 0} (old new : Mounted (Planned D)) (came : BothCameTo old new
       ]
 
   -- a job
-  pub job_plans : (end : WorkEnd) (stopped : Bool) → (IsFault (as_end end) → strikes_of old < strikes_of new)
-      → (stopped ≡ true → stops_of new ≢ stops_of old) → LeavesPlans (job_ended (job_end end stopped)) before now
-  job_plans Done stopped failed differs = record { used = before; uses = refl; rest = are_left }
-  job_plans (Fault commit) true failed differs = stopped_by commit (differs refl)
-  job_plans (Fault commit) false failed differs = let it = spent (failed tt) in record { used = it.used; uses = it.spends; rest = it.rest }
+  pub job_plans : (faults : D → ℕ) (end : WorkEnd) (stopped : Bool) → (IsFault (as_end end) → failures faults old < failures faults new)
+      → (stopped ≡ true → stops_of new ≢ stops_of old) → LeavesPlansOver faults (job_ended (job_end end stopped)) old new
+  job_plans faults Done stopped failed differs = inl (record { used = before; uses = refl; rest = are_left })
+  job_plans faults (Fault commit) true failed differs = inl (stopped_by commit (differs refl))
+  job_plans faults (Fault commit) false failed differs = spent_by faults (Work (Fault commit)) (λ armed left spends. spends) (failed tt)
 
   -- a boot
-  pub boot_plans : (end : WorkEnd) → (IsFault (as_end end) → strikes_of old < strikes_of new) → LeavesPlans (Boot (boot_end (as_end end))) before now
-  boot_plans Done failed = record { used = before; uses = refl; rest = are_left }
-  boot_plans (Fault commit) failed = let it = spent (failed tt) in record { used = it.used; uses = it.spends; rest = it.rest }
+  pub boot_plans : (faults : D → ℕ) (end : WorkEnd) → (IsFault (as_end end) → failures faults old < failures faults new)
+      → LeavesPlansOver faults (Boot (boot_end (as_end end))) old new
+  boot_plans faults Done failed = inl (record { used = before; uses = refl; rest = are_left })
+  boot_plans faults (Fault commit) failed = spent_by faults (Boot (Fault commit)) (λ armed left spends. spends) (failed tt)
+
+-- where no device beneath a plan fails, a plan was met
+pub never_beneath : {D : Type 0} (what : Step) (old new : Mounted (Planned D)) → LeavesPlansOver (λ _. 0) what old new
+    → LeavesPlans what (armed_of old) (armed_of new)
+never_beneath what old new (inl leaves) = leaves
+never_beneath what old new (inr beneath) = absurd (let more = beneath.0 in omega (arith, more))

@@ -1,9 +1,8 @@
--- A job that was done, or that met a full journal, as the rules have it.
+-- A job that was done, or that met no room, as the rules have it.
 use Rattle.std.proofs.Common.{◌≡◌, false, List, [], None, sym, ap, subst, ◌∙◌}
 use Rattle.kept_chains.specs.Kept.{store_of}
 use Rattle.server_log.specs.Done as logs
 use Rattle.pair_memory.specs.JobResult.{HoldsAt}
-use Rattle.pair_memory.specs.PairMemory.{HasTicketsAt}
 use Rattle.petal_disk.specs.declared.disk.Disk.{Ghosts}
 use Rattle.petal_msg.specs.declared.letter.Letter.{Letter}
 use Rattle.spec_rules.specs.Jobs.{Acted, stops, works}
@@ -16,7 +15,7 @@ use Rattle.server_core.specs.Work.{IsFullWork}
 use Rattle.server_store.specs.Holdings.{Holdings}
 use Rattle.state_store.specs.Device.{Keeping}
 use Rattle.memory_server.specs.Booted.{Worked}
-use Rattle.memory_server.specs.Server.{Mounted, Ran, Stands, left_at, whole_after, whole_of}
+use Rattle.memory_server.specs.Server.{Mounted, Stands, left_at, whole_after, whole_of}
 
 module _ {D : Type 0} (device : Ghosts D) (observed : device.observable) (old : Mounted D) (stands : Stands device old) where
   -- what the rule leaves is what is there
@@ -30,14 +29,11 @@ module _ {D : Type 0} (device : Ghosts D) (observed : device.observable) (old : 
   pub work_done : (new : Mounted D) (letters : List Letter)
       → acted new.core (store_of new.store) new.state.records letters
       ≡ works (here_in old.core) (server_of old.core (store_of old.store) old.state.records) old.core.queue
-      → new.core.log.voter ≡ old.core.log.voter → HasTicketsAt new.core.side new.store → HoldsAt device new.store → logs.HoldsAt device new.state
-      → Ran device old new → Worked device old new Done letters
-  work_done new letters is voter keeps holds kept run = record {
+      → new.core.log.voter ≡ old.core.log.voter → HoldsAt device new.store → logs.HoldsAt device new.state → Worked device old new Done letters
+  work_done new letters is voter holds kept = record {
     site = λ i. left_at (whole_is new letters voter is i);
     sends = ap (λ (left : Acted). left.letters) is;
-    stands = record { tickets = λ _. keeps; store = holds; state = kept };
-    cause = λ no. absurd no;
-    run = run;
+    stands = record { store = holds; state = kept };
   }
 
   -- there was none
@@ -49,15 +45,13 @@ module _ {D : Type 0} (device : Ghosts D) (observed : device.observable) (old : 
       (λ i. acted (is.1 i) (is.2 i) (is.3 i) [])
       ∙ sym (ap (works (here_in old.core) (server_of old.core (store_of old.store) old.state.records)) is.0)
 
-  -- the server stopped, since a journal had no room for its record
+  -- the server stopped, since a device had no room for its commit
   pub full_done : (core new : ServerView) (store : Holdings D) (state : Keeping D) (letters : List Letter)
       → IsFullWork device device old.core core old.store store old.state state
       → ((kept : Store) (records : List StateRecord) → acted new kept records letters ≡ stops (here_in core) (server_of core kept records))
       → new ≡ record core { running = false; queue = [] }
-      → Ran device old (record { core = new; store = store; state = state })
       → Worked device old (record { core = new; store = store; state = state }) Done letters
-  full_done core new store state letters full step rest run =
-      let off : new.running ≡ false = ap (λ (it : ServerView). it.running) rest in
+  full_done core new store state letters full step rest =
       let voter : new.log.voter ≡ old.core.log.voter = ap (λ (it : ServerView). it.log.voter) rest ∙ ap (λ (it : ServerView). it.log.voter) full.same.0 in
       let stored : store_of store ≡ store_of old.store = ap store_of full.same.1 in
       let recorded : state.records ≡ old.state.records = ap (λ (k : Keeping D). k.records) full.same.2 in
@@ -70,10 +64,7 @@ module _ {D : Type 0} (device : Ghosts D) (observed : device.observable) (old : 
         site = λ i. left_at (whole_is (record { core = new; store = store; state = state }) letters voter is i);
         sends = ap (λ (left : Acted). left.letters) is;
         stands = record {
-          tickets = λ on. absurd (cc);
           store = subst (HoldsAt device) (sym full.same.1) stands.store;
           state = subst (λ (k : Keeping D). logs.HoldsAt device k) (sym full.same.2) stands.state;
         };
-        cause = λ no. absurd no;
-        run = run;
       }

@@ -1,5 +1,5 @@
 -- A server with its two stores, as the rules see it.
-use Rattle.std.specs.Prelude.{◌≡◌, ◌<◌, ◌≤◌, ◌+◌, ℕ, Bool, true, false, Option, None, Some, is_some, IfSome, []}
+use Rattle.std.specs.Prelude.{◌≡◌, ◌<◌, ◌≤◌, ◌+◌, ℕ, Bool, true, false, Option, None, Some, is_some, IfSome, List, []}
 use Rattle.kept_chains.specs.Kept.{store_of}
 use Rattle.spec_rules.specs.declared.step.Step.{Step}
 use Rattle.server_host.specs.Desks.{Site, acted_at, left_of}
@@ -9,13 +9,14 @@ use Rattle.pair_memory.specs.JobResult.{HoldsAt}
 use Rattle.pair_memory.specs.PairMemory.{HasTicketsAt}
 use Rattle.petal_disk.specs.declared.disk.Disk.{Ghosts}
 use Rattle.server_store.specs.Holdings.{Holdings}
+use Rattle.server_store.specs.Shown.{Holds}
 use Rattle.server_store.specs.Slots.{slot_start}
-use Rattle.state_store.specs.Device.{Keeping}
+use Rattle.state_store.specs.Device.{Keeping, Holds as Keeps}
 
 -- the store that is to be made on a blank device, which takes the place of this store's: empty, and to be filled by others
 abbrev pub store_on : {D : Type 0} → D → Holdings D → Holdings D
 store_on disk store =
-    record store { entries = []; tickets = []; marks = []; fresh = true; log = record store.log { fresh = true; records = [] }; disk = disk }
+    record store { entries = []; tickets = []; marks = []; rows = []; fresh = true; log = record store.log { fresh = true; records = [] }; disk = disk }
 
 -- what is there of a store, where a blank device may have taken the place of its own
 abbrev pub store_at : {D : Type 0} → Option D → Holdings D → Holdings D
@@ -60,16 +61,26 @@ pub record Ran {D : Type 0} (device : Ghosts D) (old new : Mounted D) : Type 0 w
 abbrev pub whole_after : Site → Step → Site
 whole_after site step = record site { server = (acted_at site step).server }
 
--- where the server runs, the tickets stand where they are needed; and the devices show the stores
+-- the devices show the stores
 pub record Stands {D : Type 0} (device : Ghosts D) (mounted : Mounted D) : Type 0 where
-  pub tickets : mounted.core.running ≡ true → HasTicketsAt mounted.core.side mounted.store
   pub store : HoldsAt device mounted.store
   pub state : logs.HoldsAt device mounted.state
 
--- what is known of a server, while its stores are known to be what its devices show; a blank device may have taken the place of the
+-- where a server runs whose stores are known, the tickets stand where they are needed; a blank device may have taken the place of the
 -- data device of one that has stopped, and the slots fit it
-pub record IsKept {D : Type 0} (device : Ghosts D) (over : Bool) (blank : Option D) (mounted : Mounted D) : Type 0 where
-  pub stands : over ≡ false → is_some blank ≡ false → Stands device mounted
+pub record IsFit {D : Type 0} (size : D → ℕ) (over : Bool) (blank : Option D) (mounted : Mounted D) : Type 0 where
+  pub tickets : over ≡ false → mounted.core.running ≡ true → HasTicketsAt mounted.core.side mounted.store
   pub rests : is_some blank ≡ true → mounted.core.running ≡ false
-  pub room : IfSome blank (λ disk. slot_start mounted.store.slots ≤ device.size disk)
-  pub state : over ≡ false → logs.HoldsAt device mounted.state
+  pub room : IfSome blank (λ disk. slot_start mounted.store.slots ≤ size disk)
+
+-- while its stores are known, its devices show them, but for a blank one
+pub record IsShown {D : Type 0} (seen : D → List ℕ) (may_leave : D → List ℕ → Type 0) (over : Bool) (blank : Option D) (mounted : Mounted D) : Type 0 where
+  pub store : over ≡ false → is_some blank ≡ false → Holds mounted.store (seen mounted.store.disk) (may_leave mounted.store.disk)
+  pub state : over ≡ false
+      → Keeps mounted.state.region (seen mounted.state.disk) (may_leave mounted.state.disk) mounted.state.records
+
+-- what is known of a server, of whose devices contracts may know the bytes
+pub record IsKept {D : Type 0} (size : D → ℕ) (observable : Type 0) (seen : D → List ℕ) (may_leave : D → List ℕ → Type 0) (over : Bool) (blank : Option D)
+    (mounted : Mounted D) : Type 0 where
+  pub fit : IsFit size over blank mounted
+  pub shown : observable → IsShown seen may_leave over blank mounted

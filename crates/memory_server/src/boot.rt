@@ -6,12 +6,12 @@ ghost use Rattle.pair_memory.specs.JobResult.{HoldsAt};
 ghost use Rattle.spec_paxos.specs.Kept.{inc_of};
 ghost use Rattle.spec_rules.specs.World.{greatest_u32};
 ghost use Rattle.server_store.specs.Slots.{slot_start};
-ghost use Rattle.memory_server.specs.Booted.{Booted, BootedBlank, core_at};
+ghost use Rattle.memory_server.specs.Booted.{Booted, BootedBlank, Ended, EndedBlank, core_at};
 ghost use Rattle.memory_server.specs.Server.{store_at, store_on};
 
 use crate::attempt::Attempt;
 use crate::failing::of_store;
-use crate::recovery::{Counts, reopen, reread};
+use crate::recovery::{reopen, reread};
 use petal_base::Sequence;
 use petal_disk::Disk;
 use server_core::{ServerCore, WorkError};
@@ -47,16 +47,17 @@ fn boot_opened<D: Disk>(
     requires stopped { core.old.running ≡ false }
     requires raises { core.old.log.voter.inc < greatest_u32 }
     requires known { core.old.log.voter.inc ≡ inc_of state.old.records }
-    ensures { IfOk result (λ attempt. D.observable → HoldsAt D.Disk store.old → logs.HoldsAt D.Disk state.old → store.old.tickets ≡ []
+    requires opened { store.old.tickets ≡ [] }
+    ensures ended { IfOk result (λ attempt. Ended D.Disk (record { core = core.old; store = store.old; state = state.old })
+        (record { core = core.new; store = store.new; state = state.new }) attempt.end) }
+    ensures booted { IfOk result (λ attempt. D.observable → HoldsAt D.Disk store.old → logs.HoldsAt D.Disk state.old
         → Booted D.Disk (record { core = core.old; store = store.old; state = state.old })
         (record { core = core.new; store = store.new; state = state.new }) attempt.end attempt.letters) }
 {
-    // as many slots as a number of 32 bits can tell
-    let _slots = store.slots();
-    let before = Counts::of(store, state);
+    let before = state.records();
     match core.boot(alloc, state) {
         Ok(letters) => Ok(Attempt::done(letters)),
-        Err(WorkError::JournalFull) => Ok(Attempt::done(Sequence::new(alloc))),
+        Err(WorkError::NoRoom) => Ok(Attempt::done(Sequence::new(alloc))),
         Err(WorkError::Failed) => {
             let end = reopen(alloc, store, state, before)?;
             raise_at(end, core);
@@ -80,12 +81,12 @@ fn boot_again<D: Disk>(
 ) -> Result<Attempt, HostError>
     requires stopped { core.old.running ≡ false }
     requires raises { core.old.log.voter.inc < greatest_u32 }
-    ensures { IfOk result (λ attempt. D.observable → HoldsAt D.Disk store.old → logs.HoldsAt D.Disk state.old
+    ensures ended { IfOk result (λ attempt. Ended D.Disk (record { core = core.old; store = store.old; state = state.old })
+        (record { core = core.new; store = store.new; state = state.new }) attempt.end) }
+    ensures booted { IfOk result (λ attempt. D.observable → HoldsAt D.Disk store.old → logs.HoldsAt D.Disk state.old
         → Booted D.Disk (record { core = core.old; store = store.old; state = state.old })
         (record { core = core.new; store = store.new; state = state.new }) attempt.end attempt.letters) }
 {
-    // as many slots as a number of 32 bits can tell
-    let _slots = store.slots();
     reread(alloc, store, state)?;
     if state.inc() != core.inc() {
         return Err(HostError::Unexpected);
@@ -109,7 +110,9 @@ fn boot_blank<D: Disk>(
     requires stopped { core.old.running ≡ false }
     requires raises { core.old.log.voter.inc < greatest_u32 }
     requires room { slot_start store.old.slots ≤ D.size disk }
-    ensures { IfOk result (λ out. D.observable → logs.HoldsAt D.Disk state.old
+    ensures ended { IfOk result (λ out. EndedBlank D.Disk (record { core = core.old; store = store_on disk store.old; state = state.old })
+        (record { core = core.new; store = store.new; state = state.new }) out.1 out.0.end) }
+    ensures booted { IfOk result (λ out. D.observable → logs.HoldsAt D.Disk state.old
         → BootedBlank D.Disk (record { core = core.old; store = store_on disk store.old; state = state.old })
         (record { core = core.new; store = store.new; state = state.new }) out.1 out.0.end out.0.letters) }
 {
@@ -145,6 +148,8 @@ pub fn boot_stopped<D: Disk>(
     requires raises { core.old.log.voter.inc < greatest_u32 }
     requires room { IfSome blank.old (λ disk. slot_start store.old.slots ≤ D.size disk) }
     ensures gone { OnErr result (blank.new ≡ None) }
+    ensures ended { IfOk result (λ attempt. EndedBlank D.Disk (record { core = core.old; store = store_at blank.old store.old; state = state.old })
+        (record { core = core.new; store = store.new; state = state.new }) blank.new attempt.end) }
     ensures booted { IfOk result (λ attempt. D.observable → (is_some blank.old ≡ false → HoldsAt D.Disk store.old) → logs.HoldsAt D.Disk state.old
         → BootedBlank D.Disk (record { core = core.old; store = store_at blank.old store.old; state = state.old })
         (record { core = core.new; store = store.new; state = state.new }) blank.new attempt.end attempt.letters) }

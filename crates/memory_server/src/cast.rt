@@ -9,7 +9,7 @@ ghost use Rattle.memory_server.specs.Armed.{armed_of};
 ghost use Rattle.memory_server.specs.Server.{site_of};
 ghost use Rattle.spec_rules.specs.Plans.{unarmed};
 
-use crate::server::MemServer;
+use crate::memory::MemServer;
 use petal_base::Sequence;
 use petal_disk::{Disk, MemDisk, Planned};
 use script_lines::Script;

@@ -29,7 +29,7 @@ pub fn of_store(error: StoreError) -> HostError {
         StoreError::NoMemory => HostError::NoMemory,
         StoreError::Failed
         | StoreError::NoSpace
-        | StoreError::JournalFull
+        | StoreError::MarksFull
         | StoreError::BadRecord { .. } => HostError::Unexpected,
     }
 }

@@ -9,6 +9,7 @@ mod attempt;
 mod boot;
 mod cast;
 mod failing;
+mod memory;
 mod opening;
 mod recovery;
 mod server;
@@ -16,4 +17,5 @@ mod taken;
 mod work;
 
 pub use cast::members;
-pub use server::MemServer;
+pub use memory::MemServer;
+pub use server::DeskServer;

@@ -4,29 +4,35 @@
 //! itself, so that over such disks the second opening always meets none, even where a job failed by the plan of the one device and
 //! the other has a plan for its next read.
 
-ghost use Rattle.std.specs.Prelude.{◌≡◌, ◌<◌, ◌≤◌, ◌+◌, ◌^◌, ℕ, Bool, List, [], true, IfOk, IfErr, IsErrOf, OnOk};
+ghost use Rattle.std.specs.Prelude.{◌≡◌, ◌≤◌, ◌+◌, ◌↔◌, ℕ, Bool, List, [], true, IfOk, IfErr, IsErrOf, OnOk};
 ghost use Rattle.server_log.specs.Done as logs;
 ghost use Rattle.spec_paxos.specs.declared.record.StateRecord.{StateRecord};
-ghost use Rattle.server_store.specs.Opening.{Reopened};
+ghost use Rattle.server_store.specs.Holdings.{kept_in};
+ghost use Rattle.server_store.specs.Opening.{IsReread, Reopened};
+ghost use Rattle.server_store.specs.declared.reread.Reread.TheVariants as reread;
 ghost use Rattle.server_store.specs.Shown.{Picture, Shows as ShowsPicture};
 ghost use Rattle.state_store.specs.Device.{StandsFor};
 ghost use Rattle.data_device.specs.declared.record.StoreRecord.{StoreRecord};
 
+use crate::failing::of_store;
 use petal_disk::Disk;
-use server_store::{Store, StoreError};
+use server_host::HostError;
+use server_store::{Reread, Store, StoreError};
 use state_store::{StateError, StateStore};
 use std::alloc::Global;
 
-/// Opens a server's store again, as after a crash; once more where the device fails. The answer is whether the device shows a store.
+/// Opens a server's store again, as after a crash; once more where the device fails. The answer is whether the device shows a store,
+/// and whether that keeps what was held in memory.
 ///
 /// # Errors
 /// `Failed` where the device failed both times; else as of [`Store::reopen`].
-pub fn reopen_store<D: Disk>(alloc: Global, store: &mut Store<D>) -> Result<bool, StoreError>
+fn read_store<D: Disk>(alloc: Global, store: &mut Store<D>) -> Result<Reread, StoreError>
     ensures left { D.observable → D.may_leave store.old.disk (D.seen store.new.disk) }
     ensures same { (slots : ℕ) (fresh : Bool) (recorded : List StoreRecord) (picture : Picture)
-        → IfOk result (λ found. found ≡ true → D.observable → slots < 2 ^ 32 → ShowsPicture (D.seen store.new.disk) slots fresh recorded picture
+        → IfOk result (λ found. IsReread found → D.observable → ShowsPicture (D.seen store.new.disk) slots fresh recorded picture
         → Reopened slots fresh recorded picture store.new (D.seen store.new.disk) (D.may_leave store.new.disk)) }
-    ensures no_tickets { IfOk result (λ found. found ≡ true → store.new.tickets ≡ []) }
+    ensures no_tickets { IfOk result (λ found. IsReread found → store.new.tickets ≡ []) }
+    ensures observed { IfOk result (λ found. IsReread found → (found ≡ reread.Same) ↔ (kept_in store.new ≡ kept_in store.old)) }
     ensures failed { IfErr result (λ e. e ≡ StoreError.Failed → D.faults store.old.disk + 2 ≤ D.faults store.new.disk) }
     ensures later { D.faults store.old.disk ≤ D.faults store.new.disk }
     ensures run { D.came_to store.old.disk store.new.disk }
@@ -34,6 +40,29 @@ pub fn reopen_store<D: Disk>(alloc: Global, store: &mut Store<D>) -> Result<bool
     match store.reopen(alloc) {
         Err(StoreError::Failed) => store.reopen(alloc),
         opened => opened,
+    }
+}
+
+/// Opens a server's store again, as after a crash; once more where the device fails. The answer is whether it keeps what was held in
+/// memory.
+///
+/// # Errors
+/// Out of memory; `Unexpected` where the device failed both times, or shows no store.
+pub fn reopen_store<D: Disk>(alloc: Global, store: &mut Store<D>) -> Result<bool, HostError>
+    ensures left { D.observable → D.may_leave store.old.disk (D.seen store.new.disk) }
+    ensures same { (slots : ℕ) (fresh : Bool) (recorded : List StoreRecord) (picture : Picture)
+        → OnOk result (D.observable → ShowsPicture (D.seen store.new.disk) slots fresh recorded picture
+        → Reopened slots fresh recorded picture store.new (D.seen store.new.disk) (D.may_leave store.new.disk)) }
+    ensures no_tickets { OnOk result (store.new.tickets ≡ []) }
+    ensures observed { IfOk result (λ same. (same ≡ true) ↔ (kept_in store.new ≡ kept_in store.old)) }
+    ensures later { D.faults store.old.disk ≤ D.faults store.new.disk }
+    ensures run { D.came_to store.old.disk store.new.disk }
+{
+    match read_store(alloc, store) {
+        Ok(Reread::Same) => Ok(true),
+        Ok(Reread::Changed) => Ok(false),
+        Ok(Reread::Blank) => Err(HostError::Unexpected),
+        Err(error) => Err(of_store(error)),
     }
 }
 

@@ -1,61 +1,58 @@
 //! A server and its two stores.
 
-ghost use Rattle.std.specs.Prelude.{◌≡◌, ◌∷◌, ◌&&◌, [], true, false, None, IfOk, OnOk, OnErr};
-ghost use Rattle.server_log.specs.Done as logs;
-ghost use Rattle.spec_paxos.specs.declared.record.StateRecord.TheVariants.{Inc};
+ghost use Rattle.std.specs.Prelude.{◌≡◌, ◌≤◌, ◌↔◌, ◌&&◌, [], true, false, None, IfOk, OnOk, OnErr, IsTrue};
+ghost use Rattle.spec_rules.specs.Log.{rev_of};
 ghost use Rattle.spec_rules.specs.Server.{first_server};
 ghost use Rattle.spec_rules.specs.declared.step.Step.TheVariants.{Blank, Boot, Stop, Tick, Work};
-ghost use Rattle.server_host.specs.Desks.{IsFault, acted_at, as_end, boot_end, end_in, ended, job_ended, may_take};
+ghost use Rattle.server_host.specs.Desks.{IsFault, acted_at, as_end, boot_end, end_in, ended, is_spent_server, job_ended, may_take, site_after};
 ghost use Rattle.server_host.specs.declared.step_end.StepEnd.TheVariants.{Done};
-ghost use Rattle.server_store.specs.Shown.{Holds};
 ghost use Rattle.server_store.specs.Slots.{slot_start};
 ghost use Rattle.memory_server.specs.Server.{HasFailed, left_at, site_of, whole_after, whole_of};
-ghost use Rattle.petal_disk.specs.Plans.{plan_state};
-ghost use Rattle.spec_rules.specs.Plans.{AreLeftOf, LeavesPlans, unarmed, with_plan};
-ghost use Rattle.memory_server.specs.Armed.{BothCameTo, armed_of, stops_of};
+ghost use Rattle.petal_disk.specs.Plans.{beneath, plan_state};
+ghost use Rattle.spec_rules.specs.Plans.{AreLeftOf, unarmed, with_plan};
+ghost use Rattle.memory_server.specs.Armed.{BothCameTo, IsFormatted, LeavesPlansOver, armed_of, stops_of};
 
 use crate::attempt::Attempt;
 use crate::boot::boot_stopped;
-use crate::failing::{TickError, of_state, of_store};
+use crate::failing::TickError;
 use crate::taken::{Stops, done};
 use crate::work::work_first;
-use petal_base::{Inc, NoMemory, Rev, Sequence, ServerId};
+use petal_base::{Inc, Rev, Sequence, ServerId};
 use petal_command::ServerNumber;
-use petal_disk::{Disk, MemDisk, Plan, Planned, Which};
+use petal_disk::{Disk, Plan, Planned, Which};
 use petal_msg::Letter;
 use server_core::{ServerCore, ServerCount};
-use server_host::{Host, HostError, HostResult};
-use server_store::{DATA_START, SLOT_BYTES, Store};
+use server_host::{HostError, HostResult};
+use server_store::Store;
 use spec_rules::Step;
-use state_store::{DEVICE_BYTES, StateStore};
+use state_store::StateStore;
 use std::alloc::Global;
 use std::marker::Model;
 
-/// A disk in memory, of which one call can be made to fail, or to stop the server.
-type Device = Planned<MemDisk>;
-
-/// A server with its store and its state store, each on a disk in memory. Contracts see the core and what the stores hold.
+/// A server with its store and its state store, each on a device of which one call can be made to fail, or to stop the server.
+/// Contracts see the core and what the stores hold.
 #[derive(Drop)]
-pub struct MemServer {
+pub struct DeskServer<E: Disk> {
     core: ServerCore,
-    store: Store<Device>,
-    state: StateStore<Device>,
+    store: Store<Planned<E>>,
+    state: StateStore<Planned<E>>,
     // a blank data device, which takes the place of the store's; only of a stopped server, until it boots
-    blank: Option<Device>,
+    blank: Option<Planned<E>>,
     // what the stores have in memory is not known to be what their devices show: it takes no job, and does not boot
     over: bool,
 }
 
-impl Model for MemServer {
-    ghost use Rattle.petal_disk.specs.declared.memory_disk.MemDisk.{MemDisk};
+impl<E: Disk> Model for DeskServer<E> {
     ghost use Rattle.petal_disk.specs.declared.planned.Planned.{Planned};
+    ghost use Rattle.petal_disk.specs.Plans.{beneath};
     ghost use Rattle.memory_server.specs.Server.{IsKept, Mounted, store_at};
 
-    ghost Value = { Mounted (Planned MemDisk) };
+    ghost Value = { Mounted (Planned E) };
 
     ghost view = { λ s. record { core = s.core; store = store_at s.blank s.store; state = s.state } };
 
-    ghost invariant = { λ s. IsKept ⟦<Planned<MemDisk> as Disk>⟧ s.over s.blank (record { core = s.core; store = s.store; state = s.state }) };
+    ghost invariant = { λ s. IsKept (λ disk. E.size (beneath disk)) E.observable (λ disk. E.seen (beneath disk)) (λ disk. E.may_leave (beneath disk))
+        s.over s.blank (record { core = s.core; store = s.store; state = s.state }) };
 }
 
 fn both(a: bool, b: bool) -> bool
@@ -64,67 +61,21 @@ fn both(a: bool, b: bool) -> bool
     a && b
 }
 
-/// A blank device that has exactly the bytes that so many slots need.
-fn blank_device(alloc: Global, slots: u32) -> Result<Device, NoMemory>
-    ensures size { IfOk result (λ disk. ⟦<Planned<MemDisk> as Disk>⟧.size disk ≡ slot_start slots) }
-    ensures plan { IfOk result (λ disk. (plan_state disk).plan ≡ None) }
-{
-    let Ok(disk) = MemDisk::new(alloc, DATA_START + SLOT_BYTES * u64::from(slots)) else {
-        return Err(NoMemory);
-    };
-    Ok(Planned::new(disk))
-}
-
-/// The state store of a server that runs for the first time.
-fn first_state(alloc: Global) -> Result<StateStore<Device>, HostError>
-    ensures records { IfOk result (λ state. state.records ≡ Inc 1 ∷ []) }
-    ensures holds { IfOk result (λ state. logs.HoldsAt ⟦<Planned<MemDisk> as Disk>⟧ state) }
-    ensures plan { IfOk result (λ state. (plan_state state.disk).plan ≡ None) }
-{
-    let Ok(disk) = MemDisk::new(alloc, DEVICE_BYTES) else {
-        return Err(HostError::NoMemory);
-    };
-    match StateStore::format(alloc, Planned::new(disk), 1) {
-        Ok(state) => Ok(state),
-        Err((_, error)) => Err(of_state(error)),
-    }
-}
-
-/// The store on a blank device that has exactly the bytes that so many slots need.
-fn first_store(alloc: Global, slots: u32) -> Result<Store<Device>, HostError>
-    ensures blank { IfOk result (λ store. store ≡ record {
-      entries = [];
-      tickets = [];
-      marks = [];
-      slots = slots;
-      fresh = false;
-      log = record { fresh = false; records = []; region = store.log.region };
-      disk = store.disk;
-    }) }
-    ensures holds { IfOk result (λ store. Holds store (⟦<Planned<MemDisk> as Disk>⟧.seen store.disk) (⟦<Planned<MemDisk> as Disk>⟧.may_leave store.disk)) }
-    ensures size { IfOk result (λ store. ⟦<Planned<MemDisk> as Disk>⟧.size store.disk ≡ slot_start slots) }
-    ensures plan { IfOk result (λ store. (plan_state store.disk).plan ≡ None) }
-{
-    match Store::format(alloc, blank_device(alloc, slots)?, slots, false) {
-        Ok(store) => Ok(store),
-        Err((_, error)) => Err(of_store(error)),
-    }
-}
-
-impl MemServer {
-    /// The first incarnation of one of so many servers, with a blank device that has exactly the bytes that so many slots need,
-    /// and a state device of its own.
+impl<E: Disk> DeskServer<E> {
+    /// The first incarnation of one of so many servers, with its two stores as they were made.
     ///
     /// # Errors
-    /// Out of memory; `Unexpected` where a device fails, where there is no such server, or where it is the only one.
+    /// Out of memory; `Unexpected` where there is no such server, or where it is the only one.
     pub fn start(
         alloc: Global,
         me: ServerId,
         servers: u8,
-        slots: u32,
-    ) -> Result<MemServer, HostError>
-        ensures site { IfOk result (λ server. site_of server ≡ record { me = me; servers = servers; server = first_server true slots }) }
-        ensures device { IfOk result (λ server. ⟦<Planned<MemDisk> as Disk>⟧.size server.store.disk ≡ slot_start slots) }
+        store: Store<Planned<E>>,
+        state: StateStore<Planned<E>>,
+    ) -> Result<DeskServer<E>, HostError>
+        requires formatted { IsFormatted ⟦<Planned<E> as Disk>⟧ store state }
+        ensures site { IfOk result (λ server. site_of server ≡ record { me = me; servers = servers; server = first_server true store.slots }) }
+        ensures stores { IfOk result (λ server. (server.store ≡ store) × (server.state ≡ state)) }
         ensures plans { IfOk result (λ server. armed_of server ≡ unarmed) }
     {
         let Some(me) = ServerNumber::checked(me) else {
@@ -133,17 +84,22 @@ impl MemServer {
         let Some(servers) = ServerCount::checked(servers) else {
             return Err(HostError::Unexpected);
         };
-        let state = first_state(alloc)?;
-        let store = first_store(alloc, slots)?;
         // made last, since nothing can fail any more then
         let core = ServerCore::start(alloc, me, servers)?;
-        Ok(MemServer {
+        Ok(DeskServer {
             core,
             store,
             state,
             blank: None,
             over: false,
         })
+    }
+
+    /// How many slots its store has.
+    pub fn slots(&self) -> u32
+        ensures { result ≡ self.now.store.slots }
+    {
+        self.store.slots()
     }
 
     /// From now on this plan counts at the data device, which may be a blank one, and no earlier one.
@@ -209,9 +165,9 @@ impl MemServer {
 
     /// Does the first job of the queue, where it runs.
     fn first_job(&mut self, alloc: Global) -> Result<Attempt, HostError>
-        ensures site { IfOk result (λ attempt. site_of self.new ≡ left_at (whole_after (whole_of self.old) (Work attempt.end))) }
-        ensures letters { IfOk result (λ attempt. attempt.letters ≡ (acted_at (whole_of self.old) (Work attempt.end)).letters) }
-        ensures cause { IfOk result (λ attempt. IsFault (as_end attempt.end) → HasFailed ⟦<Planned<MemDisk> as Disk>⟧ self.old self.new) }
+        ensures site { IfOk result (λ attempt. E.observable → site_of self.new ≡ left_at (whole_after (whole_of self.old) (Work attempt.end))) }
+        ensures letters { IfOk result (λ attempt. E.observable → attempt.letters ≡ (acted_at (whole_of self.old) (Work attempt.end)).letters) }
+        ensures cause { IfOk result (λ attempt. IsFault (as_end attempt.end) → HasFailed ⟦<Planned<E> as Disk>⟧ self.old self.new) }
         ensures run { OnOk result (BothCameTo self.old self.new) }
     {
         if self.over || self.blank.is_some() {
@@ -229,11 +185,11 @@ impl MemServer {
     /// Does the first job of the queue, where it runs. It stops the server where a plan was met that does: then a device tells so
     /// that did not before.
     fn work(&mut self, alloc: Global) -> Result<HostResult, HostError>
-        ensures site { IfOk result (λ taken. site_of self.new ≡ left_at (whole_after (whole_of self.old) (job_ended taken.end))) }
-        ensures letters { IfOk result (λ taken. taken.letters ≡ (acted_at (whole_of self.old) (job_ended taken.end)).letters) }
+        ensures site { IfOk result (λ taken. E.observable → site_of self.new ≡ left_at (whole_after (whole_of self.old) (job_ended taken.end))) }
+        ensures letters { IfOk result (λ taken. E.observable → taken.letters ≡ (acted_at (whole_of self.old) (job_ended taken.end)).letters) }
         ensures end { IfOk result (λ taken. taken.end ≡ end_in (job_ended taken.end)) }
-        ensures cause { IfOk result (λ taken. IsFault taken.end → HasFailed ⟦<Planned<MemDisk> as Disk>⟧ self.old self.new) }
-        ensures plans { IfOk result (λ taken. LeavesPlans (job_ended taken.end) (armed_of self.old) (armed_of self.new)) }
+        ensures cause { IfOk result (λ taken. IsFault taken.end → HasFailed ⟦<Planned<E> as Disk>⟧ self.old self.new) }
+        ensures plans { IfOk result (λ taken. LeavesPlansOver E.faults (job_ended taken.end) self.old self.new) }
     {
         let before = self.stops();
         let attempt = self.first_job(alloc)?;
@@ -243,8 +199,9 @@ impl MemServer {
 
     /// A tick, in which the data device may fail; then all is as before.
     fn tick_once(&mut self, alloc: Global) -> Result<HostResult, TickError>
-        ensures site { OnOk result (whole_of self.new ≡ whole_after (whole_of self.old) Tick) }
-        ensures taken { IfOk result (λ taken. taken ≡ record { letters = (acted_at (whole_of self.old) Tick).letters; end = Done }) }
+        ensures site { OnOk result (E.observable → whole_of self.new ≡ whole_after (whole_of self.old) Tick) }
+        ensures letters { IfOk result (λ taken. E.observable → taken.letters ≡ (acted_at (whole_of self.old) Tick).letters) }
+        ensures end { IfOk result (λ taken. taken.end ≡ Done) }
         ensures err { OnErr result (whole_of self.new ≡ whole_of self.old) }
         ensures run { BothCameTo self.old self.new }
     {
@@ -257,8 +214,9 @@ impl MemServer {
 
     /// A tick. A data device that fails in it is asked once more; where it fails again no step is taken.
     fn tick(&mut self, alloc: Global) -> Result<HostResult, HostError>
-        ensures site { OnOk result (whole_of self.new ≡ whole_after (whole_of self.old) Tick) }
-        ensures taken { IfOk result (λ taken. taken ≡ record { letters = (acted_at (whole_of self.old) Tick).letters; end = Done }) }
+        ensures site { OnOk result (E.observable → whole_of self.new ≡ whole_after (whole_of self.old) Tick) }
+        ensures letters { IfOk result (λ taken. E.observable → taken.letters ≡ (acted_at (whole_of self.old) Tick).letters) }
+        ensures end { IfOk result (λ taken. taken.end ≡ Done) }
         ensures run { BothCameTo self.old self.new }
     {
         match self.tick_once(alloc) {
@@ -274,7 +232,10 @@ impl MemServer {
     }
 
     /// A blank device, in which as many slots fit, takes the place of the data device, where it is stopped.
-    fn blank(&mut self, alloc: Global) -> Result<(), HostError>
+    fn take_blank(&mut self, disk: Planned<E>) -> Result<(), HostError>
+        requires room { slot_start self.old.store.slots ≤ E.size (beneath disk) }
+        requires unplanned { (plan_state disk).plan ≡ None }
+        ensures stopped { OnOk result (self.old.core.running ≡ false) }
         ensures site { OnOk result (whole_of self.new ≡ whole_after (whole_of self.old) Blank) }
         ensures plans { AreLeftOf (armed_of self.old) (armed_of self.new) }
         ensures err { OnErr result (self.new ≡ self.old) }
@@ -282,8 +243,21 @@ impl MemServer {
         if self.over || self.core.is_running() {
             return Err(HostError::Unexpected);
         }
-        let disk = blank_device(alloc, self.store.slots())?;
         self.blank = Some(disk);
+        Ok(())
+    }
+
+    /// A blank device, in which as many slots fit, takes the place of the data device, where it is stopped.
+    ///
+    /// # Errors
+    /// `Unexpected` where it runs, or an earlier step was not taken.
+    pub fn blank(&mut self, disk: E) -> Result<(), HostError>
+        requires room { slot_start self.old.store.slots ≤ E.size disk }
+        ensures site { OnOk result (site_of self.new ≡ site_after (site_of self.old) Blank) }
+        ensures plans { AreLeftOf (armed_of self.old) (armed_of self.new) }
+        ensures err { OnErr result (self.new ≡ self.old) }
+    {
+        self.take_blank(Planned::new(disk))?;
         Ok(())
     }
 
@@ -292,9 +266,9 @@ impl MemServer {
     /// as it was. Where the journal of the state device has no room it stays stopped, and so does one of which the state device
     /// fails: then the devices tell whether the incarnation was raised.
     fn boot_up(&mut self, alloc: Global) -> Result<Attempt, HostError>
-        ensures site { IfOk result (λ attempt. site_of self.new ≡ left_at (whole_after (whole_of self.old) (Boot attempt.end))) }
-        ensures letters { IfOk result (λ attempt. attempt.letters ≡ (acted_at (whole_of self.old) (Boot attempt.end)).letters) }
-        ensures cause { IfOk result (λ attempt. IsFault (as_end attempt.end) → HasFailed ⟦<Planned<MemDisk> as Disk>⟧ self.old self.new) }
+        ensures site { IfOk result (λ attempt. E.observable → site_of self.new ≡ left_at (whole_after (whole_of self.old) (Boot attempt.end))) }
+        ensures letters { IfOk result (λ attempt. E.observable → attempt.letters ≡ (acted_at (whole_of self.old) (Boot attempt.end)).letters) }
+        ensures cause { IfOk result (λ attempt. IsFault (as_end attempt.end) → HasFailed ⟦<Planned<E> as Disk>⟧ self.old self.new) }
         ensures run { OnOk result (BothCameTo self.old self.new) }
     {
         if self.over || self.core.is_running() {
@@ -312,23 +286,23 @@ impl MemServer {
 
     /// It boots, where it is stopped and its incarnation can be raised. A plan that stops the server fails the boot.
     fn boot(&mut self, alloc: Global) -> Result<HostResult, HostError>
-        ensures site { IfOk result (λ taken. site_of self.new ≡ left_at (whole_after (whole_of self.old) (Boot (boot_end taken.end)))) }
-        ensures letters { IfOk result (λ taken. taken.letters ≡ (acted_at (whole_of self.old) (Boot (boot_end taken.end))).letters) }
+        ensures site { IfOk result (λ taken. E.observable → site_of self.new ≡ left_at (whole_after (whole_of self.old) (Boot (boot_end taken.end)))) }
+        ensures letters { IfOk result (λ taken. E.observable → taken.letters ≡ (acted_at (whole_of self.old) (Boot (boot_end taken.end))).letters) }
         ensures end { IfOk result (λ taken. taken.end ≡ end_in (Boot (boot_end taken.end))) }
-        ensures cause { IfOk result (λ taken. IsFault taken.end → HasFailed ⟦<Planned<MemDisk> as Disk>⟧ self.old self.new) }
-        ensures plans { IfOk result (λ taken. LeavesPlans (Boot (boot_end taken.end)) (armed_of self.old) (armed_of self.new)) }
+        ensures cause { IfOk result (λ taken. IsFault taken.end → HasFailed ⟦<Planned<E> as Disk>⟧ self.old self.new) }
+        ensures plans { IfOk result (λ taken. LeavesPlansOver E.faults (Boot (boot_end taken.end)) self.old self.new) }
     {
         let attempt = self.boot_up(alloc)?;
         Ok(attempt.boot_taken())
     }
 
-    /// Takes the step, whatever it has in memory.
+    /// Takes the step, whatever it has in memory; no device is at hand for a blank one.
     fn act(&mut self, alloc: Global, step: &Step) -> Result<HostResult, HostError>
-        ensures site { IfOk result (λ taken. site_of self.new ≡ left_at (whole_after (whole_of self.old) (ended step.now taken.end))) }
-        ensures letters { IfOk result (λ taken. taken.letters ≡ (acted_at (whole_of self.old) (ended step.now taken.end)).letters) }
+        ensures site { IfOk result (λ taken. E.observable → site_of self.new ≡ left_at (whole_after (whole_of self.old) (ended step.now taken.end))) }
+        ensures letters { IfOk result (λ taken. E.observable → taken.letters ≡ (acted_at (whole_of self.old) (ended step.now taken.end)).letters) }
         ensures end { IfOk result (λ taken. taken.end ≡ end_in (ended step.now taken.end)) }
-        ensures cause { IfOk result (λ taken. IsFault taken.end → HasFailed ⟦<Planned<MemDisk> as Disk>⟧ self.old self.new) }
-        ensures plans { IfOk result (λ taken. LeavesPlans (ended step.now taken.end) (armed_of self.old) (armed_of self.new)) }
+        ensures cause { IfOk result (λ taken. IsFault taken.end → HasFailed ⟦<Planned<E> as Disk>⟧ self.old self.new) }
+        ensures plans { IfOk result (λ taken. LeavesPlansOver E.faults (ended step.now taken.end) self.old self.new) }
     {
         match step {
             Step::Call { line: _ } => Ok(done(Sequence::new(alloc))),
@@ -339,10 +313,7 @@ impl MemServer {
             Step::Tick => self.tick(alloc),
             Step::Work(_) | Step::StopIn(_) => self.work(alloc),
             Step::Stop => Ok(done(self.stop(alloc)?)),
-            Step::Blank => {
-                self.blank(alloc)?;
-                Ok(done(Sequence::new(alloc)))
-            }
+            Step::Blank => Err(HostError::Unexpected),
             Step::Boot(_) => self.boot(alloc),
             Step::Arm { which, plan } => {
                 self.arm(*which, *plan);
@@ -362,44 +333,59 @@ impl MemServer {
             _ => true,
         }
     }
-}
 
-impl Host for MemServer {
-    ghost use Rattle.petal_disk.specs.declared.memory_disk.MemDisk.{MemDisk};
-    ghost use Rattle.petal_disk.specs.declared.planned.Planned.{Planned};
-    ghost use Rattle.memory_server.specs.Server.{faults_of, site_of};
-    ghost use Rattle.memory_server.specs.Armed.{armed_of};
-
-    ghost seen = { site_of };
-
-    ghost faults = { faults_of ⟦<Planned<MemDisk> as Disk>⟧ };
-
-    ghost armed = { armed_of };
-
-    fn step(&mut self, alloc: Global, step: &Step) -> Result<HostResult, HostError> {
+    /// Takes a step. How a job or a boot ends is for the devices to say, whatever end the step names; the server and the letters are those
+    /// of the step with the end that is given, where contracts know the bytes of the devices. That is a fault or a stop only where a device
+    /// failed, by a plan that is then used up or beneath the plans. After an error nothing is said of the server.
+    ///
+    /// # Errors
+    /// Out of memory; `Unexpected` where the rules do not allow the step here, or a device failed more often than once; and for a blank
+    /// device, which `blank` takes.
+    pub fn step(&mut self, alloc: Global, step: &Step) -> Result<HostResult, HostError>
+        ensures site { IfOk result (λ taken. E.observable → site_of self.new ≡ site_after (site_of self.old) (ended step.now taken.end)) }
+        ensures letters { IfOk result (λ taken. E.observable → taken.letters ≡ (acted_at (site_of self.old) (ended step.now taken.end)).letters) }
+        ensures end { IfOk result (λ taken. taken.end ≡ end_in (ended step.now taken.end)) }
+        ensures cause { IfOk result (λ taken. IsFault taken.end → HasFailed ⟦<Planned<E> as Disk>⟧ self.old self.new) }
+        ensures plans { IfOk result (λ taken. LeavesPlansOver E.faults (ended step.now taken.end) self.old self.new) }
+    {
         if !self.may_take(step) {
             return Err(HostError::Unexpected);
         }
         self.act(alloc, step)
     }
 
-    fn is_running(&self) -> bool {
+    /// Whether it runs.
+    pub fn is_running(&self) -> bool
+        ensures { result ≡ (site_of self.now).server.life.running }
+    {
         self.core.is_running()
     }
 
-    fn inc(&self) -> Inc {
+    /// Its incarnation.
+    pub fn inc(&self) -> Inc
+        ensures { result ≡ (site_of self.now).server.life.inc }
+    {
         self.core.inc()
     }
 
-    fn is_idle(&self) -> bool {
+    /// Whether no job waits.
+    pub fn is_idle(&self) -> bool
+        ensures { IsTrue result ↔ ((site_of self.now).server.queue ≡ []) }
+    {
         !self.core.is_running() || self.core.is_idle()
     }
 
-    fn is_spent(&self) -> bool {
+    /// Whether it runs with a number that is the greatest of its type, so that it can take no more steps.
+    pub fn is_spent(&self) -> bool
+        ensures { result ≡ is_spent_server (site_of self.now).server }
+    {
         both(self.core.is_running(), self.core.spent(&self.store))
     }
 
-    fn rev(&self) -> Rev {
+    /// Its revision of the global state; 0 where it has stopped.
+    pub fn rev(&self) -> Rev
+        ensures { result ≡ rev_of (site_of self.now).server.log }
+    {
         if self.core.is_running() {
             self.core.rev()
         } else {

@@ -1,6 +1,6 @@
 -- An entry of the log, with the commit of a store that waits no more.
-use Rattle.std.proofs.Common.{rules, ◌≡◌, ℕ, ◌+◌, Bool, true, false, Option, None, Some, List, Result, Ok, Err, length, refl, sym, subst, ap, ◌∙◌, arith}
-use Rattle.std.specs.Prelude.{◌==◌, if◌then◌else◌, IsErrOf}
+use Rattle.std.proofs.Common.{◌≡◌, Bool, true, false, ℕ, None, Some, List, Result, Ok, Err, refl, sym, subst, ap, ◌∙◌, arith}
+use Rattle.std.specs.Prelude.{if◌then◌else◌}
 use Rattle.kept_chains.specs.StoreError.{StoreError}
 use Rattle.kept_chains.specs.StoreError.TheVariants as store
 use Rattle.petal_command.specs.declared.command.Command.{Command}
@@ -9,32 +9,19 @@ use Rattle.petal_disk.specs.declared.disk.Disk.{Ghosts}
 use Rattle.spec_rules.specs.Crossing.{crossed, crossed_by, is_blank_join}
 use Rattle.spec_rules.specs.Server.{JobContext, PairState}
 use Rattle.spec_rules.specs.Store.{Store, settled}
-use Rattle.kept_chains.specs.Errors.{IsCommitError}
-use Rattle.kept_chains.specs.Holdings.{Holdings}
+use Rattle.kept_chains.specs.Holdings.{Holdings, kept_in}
 use Rattle.kept_chains.proofs.Commits.{still_moments}
 use Rattle.kept_chains.specs.Kept.{store_of}
 use Rattle.kept_chains.specs.Marking.{IsCommit}
 use Rattle.kept_chains.specs.Standing.{StandsAsEither}
-use Rattle.pair_memory.specs.Crossed.{IsCrossed, IsEntered, lacks_room}
+use Rattle.pair_memory.specs.Crossed.{IsCrossed, IsEntered}
 use Rattle.pair_memory.specs.JobResult.{HoldsAt}
 use Rattle.pair_memory.specs.PairMemory.{PairMemory, HasTicketsAt, own_of}
 use Rattle.pair_memory.specs.declared.error.WorkError.TheVariants.{Failed}
-use Rattle.petal_base.specs.Limits.{journal_records}
 
 -- the own part with a store that waits no more
 abbrev settled_own : PairState → PairState
 settled_own own = record own { store = settled own.store }
-
--- where the journal has no room, the rule has one record more than that
-pub lacking : {D : Type 0} (here : JobContext) (entry : Option Command) (side : PairMemory) (before : Holdings D)
-    → lacks_room here.me here.inc entry before ≡ true
-    → (before.log.region.count ≡ journal_records) × ((crossed_by here entry (own_of side before)).store.records ≡ length before.log.records + 1)
-lacking here None side before is = absurd (cc)
-lacking here (Some entry) side before is =
-    let own : is_blank_join entry here.me here.inc ≡ true = search rules in
-    let waits : before.fresh ≡ true = search rules in
-    let full : (before.log.region.count == journal_records) ≡ true = search rules in
-    (grind arith, rw (own, waits) refl)
 
 module _ {D : Type 0} (device : Ghosts D) (stays : (d : D) → device.came_to d d)
     (only_now : (d : D) (c : List ℕ) → device.left_since d (device.moment d) c → device.may_leave d c)
@@ -62,6 +49,7 @@ module _ {D : Type 0} (device : Ghosts D) (stays : (d : D) → device.came_to d 
       holds = λ _. mid_holds;
       moments = λ _. still_moments device only_now before mid rule.store same_disk;
       kept = λ _. ap (λ (s : Holdings D). s.entries) cross.store;
+      stays = tt;
       errors = tt;
       cause = record { later = let same = ap device.faults same_disk in omega (arith, same); failed = λ no. absurd (cc) };
       run = subst (device.came_to before.disk) (sym same_disk) (stays before.disk);
@@ -74,13 +62,13 @@ module _ {D : Type 0} (device : Ghosts D) (stays : (d : D) → device.came_to d 
         ∙ sym (ap (λ (b : Bool). if b then settled_own (crossed here.state entry (own_of old before)) else crossed here.state entry (own_of old before)) blank)
 
     abbrev Leaves : Holdings D → Type 0
-    Leaves m = LeavesOnly device.moment device.left_since m.disk after.disk (StandsAsEither (store_of m) (settled (store_of m)))
+    Leaves m = LeavesOnly device.moment device.left_since m.disk after.disk (StandsAsEither m (settled (store_of m)))
 
-    moments_of : Leaves mid → LeavesOnly device.moment device.left_since before.disk after.disk (StandsAsEither (store_of before) rule.store)
+    moments_of : Leaves mid → LeavesOnly device.moment device.left_since before.disk after.disk (StandsAsEither before rule.store)
     moments_of left =
-        subst (λ (s : Store). LeavesOnly device.moment device.left_since before.disk after.disk (StandsAsEither (store_of before) s))
+        subst (λ (s : Store). LeavesOnly device.moment device.left_since before.disk after.disk (StandsAsEither before s))
         (ap (λ (own : PairState). own.store) ruled)
-        (subst (λ (m : Holdings D). LeavesOnly device.moment device.left_since m.disk after.disk (StandsAsEither (store_of m) (settled (store_of mid))))
+        (subst (λ (m : Holdings D). LeavesOnly device.moment device.left_since m.disk after.disk (StandsAsEither m (settled (store_of mid))))
         cross.store left)
 
     keeps_of : {R : Type 0} {result : Result R StoreError} → IsCommit device mid after result (settled (store_of mid)) → HasTicketsAt new after
@@ -101,6 +89,7 @@ module _ {D : Type 0} (device : Ghosts D) (stays : (d : D) → device.came_to d 
       holds = λ observed holds. commit.holds observed (mid_holds holds);
       moments = λ observed holds. moments_of (commit.moments observed (mid_holds holds));
       kept = kept_of commit;
+      stays = tt;
       errors = tt;
       cause = record {
         later = let same = ap device.faults same_disk in let later = commit.cause.later in
@@ -110,34 +99,23 @@ module _ {D : Type 0} (device : Ghosts D) (stays : (d : D) → device.came_to d 
       run = run_of commit;
     }
 
-    no_room : lacks_room here.me here.inc (Some entry) before ≡ false → (mid.log.region.count ≡ journal_records) × (mid.fresh ≡ true) → ⊥
-    no_room room full =
-        let count : before.log.region.count ≡ journal_records = sym (ap (λ (s : Holdings D). s.log.region.count) cross.store) ∙ full.0 in
-        let waits : before.fresh ≡ true = sym (ap (λ (s : Holdings D). s.fresh) cross.store) ∙ full.1 in
-        absurd (let lacks : lacks_room here.me here.inc (Some entry) before ≡ true = rw (blank, waits, count) refl in cc)
-
     -- and a device that failed in it failed
-    pub entered_failed : {T R : Type 0} (e : StoreError) → IsCommitError e → lacks_room here.me here.inc (Some entry) before ≡ false
-        → (IsErrOf {T = R} (Err e) store.JournalFull → (mid.log.region.count ≡ journal_records) × (mid.fresh ≡ true))
-        → IsCommit {T = R} device mid after (Err e) (settled (store_of mid))
+    pub entered_failed : {T R : Type 0} (e : StoreError) → e ≡ store.Failed → IsCommit {T = R} device mid after (Err e) (settled (store_of mid))
         → IsEntered {T = T} device here (Some entry) old new before after (Err Failed)
-    entered_failed store.Failed is room full commit = record {
+    entered_failed e is commit = record {
       own = tt;
       keeps = keeps_of commit;
       holds = λ _ _. tt;
       moments = λ observed holds. moments_of (commit.moments observed (mid_holds holds));
       kept = kept_of commit;
+      stays = commit.stays ∙ ap (λ (s : Holdings D). kept_in s) cross.store;
       errors = refl;
       cause = record {
         later = let same = ap device.faults same_disk in let later = commit.cause.later in omega (arith, same, later);
-        failed = λ _. let same = ap device.faults same_disk in let failed = commit.cause.failed refl in omega (arith, same, failed);
+        failed = λ _. let same = ap device.faults same_disk in let failed = commit.cause.failed (ap Err is) in omega (arith, same, failed);
       };
       run = run_of commit;
     }
-    entered_failed store.NoSpace is room full commit = absurd is
-    entered_failed store.JournalFull is room full commit = absurd (no_room room (full refl))
-    entered_failed (store.BadRecord index) is room full commit = absurd is
-    entered_failed store.NoMemory is room full commit = absurd is
 
 -- where no entry is known nothing is done
 pub entered_nothing : {D T : Type 0} (device : Ghosts D) → ((d : D) → device.came_to d d)
@@ -150,6 +128,7 @@ entered_nothing device stays only_now here side held done keeps = record {
   holds = λ _ holds. holds;
   moments = λ _. still_moments device only_now held held (store_of held) refl;
   kept = λ _. refl;
+  stays = tt;
   errors = tt;
   cause = record { later = omega arith; failed = λ no. absurd (cc) };
   run = stays held.disk;

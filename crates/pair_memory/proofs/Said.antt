@@ -4,10 +4,10 @@ use Rattle.petal_disk.specs.declared.disk.Disk.{Ghosts}
 use Rattle.spec_rules.specs.Server.{JobContext}
 use Rattle.spec_rules.specs.Server as rules
 use Rattle.spec_rules.specs.World.{greatest_u64}
-use Rattle.kept_chains.specs.Holdings.{Holdings}
+use Rattle.kept_chains.specs.Holdings.{Holdings, kept_in}
 use Rattle.kept_chains.proofs.Commits.{still_moments}
 use Rattle.pair_memory.specs.declared.error.WorkError.{WorkError}
-use Rattle.pair_memory.specs.declared.error.WorkError.TheVariants.{Failed, JournalFull, NoMemory, Exhausted}
+use Rattle.pair_memory.specs.declared.error.WorkError.TheVariants.{Failed, NoRoom, NoMemory, Exhausted}
 use Rattle.pair_memory.specs.declared.job_result.JobResult.{JobResult}
 use Rattle.pair_memory.specs.PairMemory.{PairMemory}
 use Rattle.pair_memory.specs.JobResult.{HoldsAt, IsFull, IsSaid, IsSpent, IsDone, held}
@@ -38,6 +38,7 @@ module _ {D : Type 0} (device : Ghosts D) (stays : (d : D) → device.came_to d 
     still = λ no. absurd (cc);
     same = λ no. absurd (cc);
     kept = tt;
+    stays = tt;
     full = λ no. absurd (cc);
     spent = λ no. absurd (cc);
     cause = record { later = let same = ap device.faults (disk_is old_store new_store said.store) in omega (arith, same); failed = λ no. absurd (cc) };
@@ -51,6 +52,7 @@ module _ {D : Type 0} (device : Ghosts D) (stays : (d : D) → device.came_to d 
     still = λ _ _. shown_still old_store new_store said.store;
     same = λ _. (said.err.1, said.err.2 ∙ ap (λ (s : Holdings D). record old_store { disk = s.disk }) (sym said.err.2));
     kept = λ _. entries_are old_store new_store said.store;
+    stays = ap (λ (s : Holdings D). kept_in s) said.store;
     full = λ is. absurd (let e_is : e ≡ NoMemory = said.err.0 in cc);
     spent = λ is. absurd (let e_is : e ≡ NoMemory = said.err.0 in cc);
     cause = record {
@@ -60,9 +62,9 @@ module _ {D : Type 0} (device : Ghosts D) (stays : (d : D) → device.came_to d 
     run = run_same old_store new_store (disk_is old_store new_store said.store);
   }
 
-  -- a job for whose record the journal has no room
+  -- a job for whose mark there is no room
   pub full_done : (here : JobContext) (old new : PairMemory) (before after : Holdings D) (rule : rules.JobResult) → IsFull old new before after rule
-      → IsDone device here (held old before) (held new after) (Err JournalFull) rule
+      → IsDone device here (held old before) (held new after) (Err NoRoom) rule
   full_done here old new before after rule full =
       let disk : after.disk ≡ before.disk = ap (λ (s : Holdings D). s.disk) full.same.1 in
       record {
@@ -73,6 +75,7 @@ module _ {D : Type 0} (device : Ghosts D) (stays : (d : D) → device.came_to d 
         still = λ no. absurd (cc);
         same = λ no. absurd (cc);
         kept = λ _. ap (λ (s : Holdings D). s.entries) full.same.1;
+        stays = ap (λ (s : Holdings D). kept_in s) full.same.1;
         full = λ _. full;
         spent = λ no. absurd (cc);
         cause = record { later = let same = ap device.faults disk in omega (arith, same); failed = λ no. absurd (cc) };
@@ -93,6 +96,7 @@ module _ {D : Type 0} (device : Ghosts D) (stays : (d : D) → device.came_to d 
         still = λ no. absurd (cc);
         same = λ no. absurd (cc);
         kept = λ _. ap (λ (s : Holdings D). s.entries) same;
+        stays = ap (λ (s : Holdings D). kept_in s) same;
         full = λ no. absurd (cc);
         spent = λ _. spent;
         cause = record { later = let same = ap device.faults disk in omega (arith, same); failed = λ no. absurd (cc) };
@@ -114,8 +118,8 @@ module _ {D : Type 0} (device : Ghosts D) (stays : (d : D) → device.came_to d 
       → IsDone device here (held old store) (held new store) answer rule
   said_or_spent here old new store (Ok out) rule said spent = said_done here old new store store (Ok out) rule (said (λ no. absurd (cc)))
   said_or_spent here old new store (Err Failed) rule said spent = said_done here old new store store (Err Failed) rule (said (λ no. absurd (cc)))
-  said_or_spent here old new store (Err JournalFull) rule said spent =
-      said_done here old new store store (Err JournalFull) rule (said (λ no. absurd (cc)))
+  said_or_spent here old new store (Err NoRoom) rule said spent =
+      said_done here old new store store (Err NoRoom) rule (said (λ no. absurd (cc)))
   said_or_spent here old new store (Err NoMemory) rule said spent =
       said_done here old new store store (Err NoMemory) rule (said (λ no. absurd (cc)))
   said_or_spent here old new store (Err Exhausted) rule said spent =

@@ -19,7 +19,9 @@ use Rattle.spec_rules.specs.Writes.{has_slot}
 use Rattle.spec_rules.proofs.CellTables.{cell_cmp_total, cell_same, cell_apart, cell_gone, cell_gone_apart}
 use Rattle.petal_base.specs.declared.cell.Key.{Key}
 use Rattle.physical_map.specs.Keys.{placed}
-use Rattle.spec_rules.specs.Store.{with_entry, with_ticket, without_ticket}
+use Rattle.client_rows.specs.Rows.{rows_after}
+use Rattle.petal_base.specs.Origins.{Named}
+use Rattle.spec_rules.specs.Store.{with_put, with_ticket, without_ticket}
 use Rattle.spec_rules.specs.Store as rules
 use Rattle.kept_chains.specs.Holdings.{Holdings, key_held}
 use Rattle.kept_chains.specs.Kept.{chains_of, store_of}
@@ -312,12 +314,12 @@ contained slot (t ∷ ts) (zero, within, is) = let here : one_at slot t ≡ 1 = 
 contained slot (t ∷ ts) (suc k, within, is) = let more = contained slot ts (k, omega arith, is) in omega (arith, more)
 
 -- a put of an entry, as the rules see the store
-pub spent_is : {D : Type 0} (old new : Holdings D) (key : Key) (version slot : ℕ) (bytes : List ℕ) → Contains old.tickets slot
+pub spent_is : {D : Type 0} (old new : Holdings D) (key : Key) (version slot : ℕ) (origin : Option Named) (bytes : List ℕ) → Contains old.tickets slot
     → new.entries ≡ placed key_held old.entries (record { entry = record { key = key; slot = slot; version = version }; content = bytes })
-    → new ≡ record old { entries = new.entries; tickets = store.without old.tickets slot; log = new.log; disk = new.disk }
-    → length new.log.records ≡ length old.log.records + 1
-    → store_of new ≡ with_entry (store_of old) key (record { version = version; bytes = bytes })
-spent_is {D = D} old new key version slot bytes has entries rest recorded =
+    → new.rows ≡ rows_after old.rows key.map origin
+    → new ≡ record old { entries = new.entries; rows = new.rows; tickets = store.without old.tickets slot; log = new.log; disk = new.disk }
+    → store_of new ≡ with_put (store_of old) key (record { version = version; bytes = bytes }) origin
+spent_is {D = D} old new key version slot origin bytes has entries rows rest =
     let fewer : length new.tickets ≡ length old.tickets - 1 =
     (let gone = length_less slot old.tickets (contained slot old.tickets has) in
     let same : length new.tickets ≡ length (store.without old.tickets slot) = ap (λ (s : Holdings D). length s.tickets) rest in
@@ -326,7 +328,7 @@ spent_is {D = D} old new key version slot bytes has entries rest recorded =
     let chains = ap chains_of entries ∙ placed_is old.entries (record { entry = record { key = key; slot = slot; version = version }; content = bytes }) in
     let marks = ap (λ (s : Holdings D). s.marks) rest in
     let fresh = ap (λ (s : Holdings D). s.fresh) rest in
-    λ i. record { slots = slots i; chains = chains i; tickets = fewer i; marks = marks i; fresh = fresh i; records = recorded i }
+    λ i. record { slots = slots i; chains = chains i; tickets = fewer i; marks = marks i; rows = rows i; fresh = fresh i }
 
 -- the store with so many slots set apart
 abbrev pub with_tickets : {D : Type 0} → Holdings D → ℕ → rules.Store

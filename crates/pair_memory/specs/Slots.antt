@@ -1,12 +1,10 @@
 -- Tickets by the cells for whose puts they are.
-use Rattle.std.specs.Prelude.{◌≡◌, ℕ, Bool, true, false, ◌++◌, ◌∷◌, [], ⊤, List, Some, Contains}
+use Rattle.std.specs.Prelude.{◌≡◌, ℕ, Bool, true, false, ◌++◌, ◌∷◌, [], List, Some, Contains}
 use Rattle.petal_base.specs.declared.cell.Cell.{Cell}
 use Rattle.petal_table.specs.Table.{Table, at, put}
 use Rattle.petal_base.specs.declared.cell.Key.{Key}
 use Rattle.spec_rules.specs.Store.{Store, Stored, cell_cmp, with_entry, with_ticket}
 use Rattle.kept_chains.specs.Holdings.{Holdings}
-use Rattle.pair_memory.specs.declared.error.WorkError.{WorkError}
-use Rattle.pair_memory.specs.declared.error.WorkError.TheVariants.{Failed, JournalFull, NoMemory, Exhausted}
 
 -- a slot was set apart, and its ticket stands at the cell
 pub record IsKept {D : Type 0} (old_table new_table : Table Cell ℕ) (old new : Holdings D) (cell : Cell) : Type 0 where
@@ -24,10 +22,3 @@ IsOutAt table cell tickets = (slot : ℕ) → at cell_cmp table cell ≡ Some sl
 abbrev pub with_new : Store → Key → Stored → (room : Bool) → Store
 with_new store key entry true = with_entry (with_ticket store) key entry
 with_new store key entry false = store
-
--- what stops a server
-abbrev pub IsStop : WorkError → Type 0
-IsStop Failed = ⊤
-IsStop JournalFull = ⊤
-IsStop NoMemory = ⊥
-IsStop Exhausted = ⊥

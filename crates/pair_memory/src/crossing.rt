@@ -1,6 +1,6 @@
 //! What an entry of the log does to a server's part in its pairs.
 
-ghost use Rattle.std.specs.Prelude.{◌≡◌, ◌≤◌, ◌+◌, ◌&&◌, ℕ, false, map, filter, find, length, IfOk, Some};
+ghost use Rattle.std.specs.Prelude.{◌≡◌, ◌≤◌, ◌+◌, ◌&&◌, ℕ, map, filter, find, length, IfOk, Some};
 ghost use Rattle.std.specs.List.Sorted.{IsStrictlySortedBy};
 ghost use Rattle.std.specs.Map.{keys_of, values_of};
 ghost use Rattle.spec_state.specs.Command.{after};
@@ -11,7 +11,7 @@ ghost use Rattle.spec_rules.specs.State.{id_of};
 ghost use Rattle.spec_rules.specs.Store.{Store as Stored, cell_cmp};
 ghost use Rattle.spec_rules.specs.declared.job.Job.TheVariants as job;
 ghost use Rattle.pair_memory.specs.Ended.{cell_ends};
-ghost use Rattle.pair_memory.specs.Crossed.{AreFreed, IsCrossed, IsEntered, lacks_room};
+ghost use Rattle.pair_memory.specs.Crossed.{AreFreed, IsCrossed, IsEntered};
 ghost use Rattle.pair_memory.specs.PairMemory.{HasTicketsAt, pairs_of, times};
 
 use crate::ends::{drop_cells, ends_cell};
@@ -97,13 +97,6 @@ fn is_blank_join(here: &JobContext, entry: &Command) -> bool
     }
 }
 
-/// Whether the store is to wait for nobody any more by the entry, and its journal has no room for that.
-pub fn lacks_room<D: Disk>(here: &JobContext, entry: &Command, store: &Store<D>) -> bool
-    ensures { result ≡ lacks_room here.now.me here.now.inc (Some entry.now) store.now }
-{
-    is_blank_join(here, entry) && store.fresh() && store.is_full()
-}
-
 /// The entry does to the server's own part what it does: what it drops is dropped, and with its own Join a server that came back
 /// with nothing waits for nobody any more, which is the one commit. The state is that before the entry, which makes the next one. It
 /// takes no memory.
@@ -119,7 +112,6 @@ pub fn enter_all<D: Disk>(
 ) -> Result<(), WorkError>
     requires tickets { HasTicketsAt side.old store.old }
     requires next { next.now ≡ after here.now.state entry.now }
-    requires room { lacks_room here.now.me here.now.inc (Some entry.now) store.old ≡ false }
     ensures { IsEntered D.Disk here.now (Some entry.now) side.old side.new store.old store.new result }
 {
     cross(here, entry, next, side, store);

@@ -10,9 +10,10 @@ pub enum WorkError {
     /// The data device failed, and its count of faults rose. The server is to be stopped.
     #[error("the device failed")]
     Failed,
-    /// The data device's journal has all the records that it has room for. The server is to be stopped.
-    #[error("the journal is full")]
-    JournalFull,
+    /// Marks and rows of the data device are as many as there may be, or the journal of the state device has all its records. The server
+    /// is to be stopped.
+    #[error("no room for the record of the job")]
+    NoRoom,
     /// There was no memory for this job, which changed nothing.
     #[error("out of memory")]
     NoMemory,
@@ -40,7 +41,7 @@ impl From<StoreError> for WorkError {
 
     fn from(refusal: StoreError) -> WorkError {
         match refusal {
-            StoreError::JournalFull => WorkError::JournalFull,
+            StoreError::MarksFull => WorkError::NoRoom,
             StoreError::NoMemory => WorkError::NoMemory,
             StoreError::Failed | StoreError::NoSpace | StoreError::BadRecord { .. } => {
                 WorkError::Failed

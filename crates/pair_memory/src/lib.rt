@@ -19,7 +19,7 @@ mod side;
 mod slots;
 
 pub use copies::Copies;
-pub use crossing::{enter_all, entry_jobs, lacks_room};
+pub use crossing::{enter_all, entry_jobs};
 pub use error::WorkError;
 pub use job_context::JobContext;
 pub use job_result::{FollowUp, JobResult, only};

@@ -1,23 +1,24 @@
 //! Slots set apart, by the cells for whose puts they are.
 
-ghost use Rattle.std.specs.Prelude.{◌≡◌, ◌+◌, ◌++◌, ◌∷◌, [], nat_lt, true, false, ℕ, None, Some, IsSome, IfOk, OnOk, OnErr, IfErr, IsErrOf};
+ghost use Rattle.std.specs.Prelude.{◌≡◌, ◌==◌, ◌&&◌, ◌+◌, ◌++◌, ◌∷◌, [], nat_lt, not, true, false, ℕ, None, Some, IsSome, IfOk, OnOk, OnErr, IfErr};
 ghost use Rattle.std.specs.List.Sorted.{IsStrictlySortedBy};
 ghost use Rattle.std.specs.Map.{keys_of};
 ghost use Rattle.petal_disk.specs.Disk.{LeavesOnly};
 ghost use Rattle.petal_table.specs.Table.{at, put, without};
-ghost use Rattle.spec_rules.specs.Store.{cell_cmp, free_of, with_entry};
+ghost use Rattle.spec_rules.specs.Store.{cell_cmp, free_of, with_put};
+ghost use Rattle.petal_base.specs.Limits.{marks_limit};
+ghost use Rattle.kept_chains.specs.Holdings.{adds_row, kept_in, marked_in};
 ghost use Rattle.kept_chains.specs.Tickets as lists;
 ghost use Rattle.kept_chains.specs.Kept.{store_of};
 ghost use Rattle.kept_chains.specs.Marking.{IsChange};
 ghost use Rattle.kept_chains.specs.Standing.{StandsAsEither};
 ghost use Rattle.pair_memory.specs.declared.error.WorkError.TheVariants as error;
 ghost use Rattle.pair_memory.specs.JobResult.{HasFault, HoldsAt};
-ghost use Rattle.pair_memory.specs.Slots.{IsKept, IsStop, IsOutAt, with_new};
-ghost use Rattle.petal_base.specs.Limits.{journal_records};
+ghost use Rattle.pair_memory.specs.Slots.{IsKept, IsOutAt, with_new};
 
 use crate::error::WorkError;
 use kept_chains::{Store, StoreError, Ticket, set_apart};
-use petal_base::{Cell, Key, NoMemory, SharedBlock, Version};
+use petal_base::{Cell, Key, NoMemory, Origin, SharedBlock, Version};
 use petal_disk::Disk;
 use petal_table::Table;
 
@@ -44,7 +45,10 @@ pub fn keep<D: Disk>(
     }
 }
 
-/// Puts a block in the slot that was set apart for a cell. Where the journal is full nothing changes.
+/// Puts a block in the slot that was set apart for a cell, for a client's write if it is for one. A row for it has room.
+///
+/// # Errors
+/// The device failed. All that is kept in memory of entries and marks stays.
 pub fn spend<D: Disk>(
     table: &mut Table<Cell, Ticket>,
     store: &mut Store<D>,
@@ -52,29 +56,29 @@ pub fn spend<D: Disk>(
     key: Key,
     version: Version,
     block: &SharedBlock,
+    origin: Option<Origin>,
 ) -> Result<(), WorkError>
+    requires room { not ((marked_in store.old == marks_limit) && adds_row store.old key.map origin) ≡ true }
     requires some { IsSome (at cell_cmp table.old cell) }
     requires out { IsOutAt table.old cell store.old.tickets }
-    ensures ok { OnOk result (D.observable → store_of store.new ≡ with_entry (store_of store.old) key (record { version = version; bytes = block.now })) }
+    ensures ok { OnOk result (D.observable → store_of store.new
+        ≡ with_put (store_of store.old) key (record { version = version; bytes = block.now }) origin) }
     ensures table { OnOk result (table.new ≡ without cell_cmp table.old cell) }
     ensures tickets { OnOk result ((slot : ℕ) → at cell_cmp table.old cell ≡ Some slot → store.new.tickets ≡ lists.without store.old.tickets slot) }
     ensures sorted { IsStrictlySortedBy cell_cmp (keys_of table.old) }
     ensures kept { OnErr result (D.observable → store.new.entries ≡ store.old.entries) }
     ensures holds { D.observable → HoldsAt D.Disk store.old → OnOk result (HoldsAt D.Disk store.new) }
+    ensures stays { OnErr result (kept_in store.new ≡ kept_in store.old) }
     ensures moments { D.observable → HoldsAt D.Disk store.old → LeavesOnly D.moment D.left_since store.old.disk store.new.disk
-        (StandsAsEither (store_of store.old) (with_entry (store_of store.old) key (record { version = version; bytes = block.now }))) }
-    ensures errors { IfErr result IsStop }
-    ensures full { IsErrOf result error.JournalFull → (store.old.log.region.count ≡ journal_records) × (table.new ≡ table.old) × (store.new ≡ store.old) }
+        (StandsAsEither store.old (with_put (store_of store.old) key (record { version = version; bytes = block.now }) origin)) }
+    ensures errors { IfErr result (λ e. e ≡ error.Failed) }
     ensures cause { HasFault (D.faults store.old.disk) (D.faults store.new.disk) result }
     ensures run { D.came_to store.old.disk store.new.disk }
 {
     // What `len` promises tells the proof that the rows rise by cell.
     let _ = table.len();
-    if store.is_full() {
-        return Err(WorkError::JournalFull);
-    }
     match table.remove(&cell) {
-        Some(ticket) => match store.put(ticket, key, version, block.block()) {
+        Some(ticket) => match store.put(ticket, key, version, block.block(), origin) {
             Ok(()) => Ok(()),
             Err(_) => Err(WorkError::Failed),
         },
@@ -98,8 +102,7 @@ pub fn give_back<D: Disk>(table: &mut Table<Cell, Ticket>, store: &mut Store<D>,
 /// Puts a block in a free slot; false where none is free, and then nothing changed.
 ///
 /// # Errors
-/// Out of memory, before any call of the device; `JournalFull` only where the journal has all its records; `Failed`, where the
-/// device failed. The entries stay as they were.
+/// Out of memory, before any call of the device; `Failed`, where the device failed. The entries stay as they were.
 pub fn put_new<D: Disk>(
     store: &mut Store<D>,
     key: Key,
@@ -113,7 +116,7 @@ pub fn put_new<D: Disk>(
 {
     match set_apart(store)? {
         None => Ok(false),
-        Some(ticket) => match store.put(ticket, key, version, block.block()) {
+        Some(ticket) => match store.put(ticket, key, version, block.block(), None) {
             Ok(()) => Ok(true),
             Err(error) => Err(error),
         },

@@ -1,15 +1,28 @@
 -- Two letters that `==` finds equal are one.
-use Rattle.std.proofs.Common.{◌&&◌, Bool, List}
+use Rattle.std.proofs.Common.{◌==◌, ◌&&◌, Bool, List, Option}
 use Rattle.std.specs.Cmp.Lexicographic.{pointwise}
+use Rattle.std.specs.Option.{option_eq}
 use Rattle.petal_base.specs.declared.cell.Cell.{Cell}
 use Rattle.petal_base.specs.declared.cell.Key.{Key}
+use Rattle.petal_base.specs.Origins.{Named}
+use Rattle.petal_base.specs.contracts.origin.OriginPartialEq.TheImpl as origins
 use Rattle.petal_command.specs.declared.command.Command.{Command}
 use Rattle.petal_command.specs.contracts.command.CommandPartialEq.TheImpl as commands
 use Rattle.petal_command.proofs.Alike.{command_by, command_tells, pax_by}
-use Rattle.petal_command.proofs.Equal.{both_left, both_right}
-use Rattle.petal_command.proofs.Telling.{Tells, TellsAll, enum_tells, tells_list, telling}
+use Rattle.petal_command.proofs.Equal.{both_left, both_right, number_is}
+use Rattle.petal_command.proofs.Telling.{Tells, TellsAll, enum_tells, tells_list, tells_option, telling}
 use Rattle.petal_msg.specs.contracts.body.Body as a_body
 use Rattle.petal_msg.specs.contracts.body.BodyPartialEq.TheImpl as bodies
+
+origin_tells : TellsAll origins.ghosts.eq
+origin_tells = record {
+  same = λ x y e.
+      let link = number_is x.link y.link (both_left (x.link == y.link) (x.client == y.client && x.seq == y.seq) e) in
+      let more = both_right (x.link == y.link) (x.client == y.client && x.seq == y.seq) e in
+      let client = number_is x.client y.client (both_left (x.client == y.client) (x.seq == y.seq) more) in
+      let seq = number_is x.seq y.seq (both_right (x.client == y.client) (x.seq == y.seq) more) in
+      λ i. record { link = link i; client = client i; seq = seq i };
+}
 
 module _ {K : Type 0} where
   cell_by : {E F : K → K → Bool} {part : K → Cell} → Tells E (λ x. (part x).map) → Tells F (λ x. (part x).block)
@@ -33,5 +46,8 @@ module _ {K : Type 0} where
   commands_by : (part : K → List Command) → Tells (λ x y. pointwise commands.ghosts.eq (part x) (part y)) part
   commands_by part = tells_list command_tells part
 
+  origins_by : (part : K → Option Named) → Tells (λ x y. option_eq origins.ghosts.eq (part x) (part y)) part
+  origins_by part = tells_option origin_tells part
+
 pub body_tells : TellsAll bodies.ghosts.eq
-body_tells = enum_tells a_body.enum _ (search (cell_by, key_by, command_by, commands_by, pax_by, telling))
+body_tells = enum_tells a_body.enum _ (search (cell_by, key_by, command_by, commands_by, origins_by, pax_by, telling))

@@ -47,7 +47,7 @@ about (body.Full seq) = record { subject = Answered; seq = Some seq; cell = None
 about (body.Reserve op cell) = record { subject = Paired; seq = None; cell = Some cell; op = Some op; any_rev = false }
 about (body.Reserved op cell) = record { subject = Paired; seq = None; cell = Some cell; op = Some op; any_rev = false }
 about (body.PairFull op cell) = record { subject = Paired; seq = None; cell = Some cell; op = Some op; any_rev = false }
-about (body.Replicate op key version bytes) = record { subject = Paired; seq = None; cell = Some (cell_of key); op = Some op; any_rev = false }
+about (body.Replicate op key version origin bytes) = record { subject = Paired; seq = None; cell = Some (cell_of key); op = Some op; any_rev = false }
 about (body.Replicated op cell) = record { subject = Paired; seq = None; cell = Some cell; op = Some op; any_rev = false }
 about (body.HelloAsk map link after) = record { subject = Copied; seq = None; cell = None; op = None; any_rev = false }
 about (body.Hello map link after block) = record { subject = Copied; seq = None; cell = None; op = None; any_rev = false }

@@ -1,8 +1,8 @@
 //! What letters say.
 
 use petal_base::{
-    BlockNo, Cell, ClientId, Epoch, Inc, Key, MapId, Op, Rev, Seq, Sequence, ServerId, SharedBlock,
-    Version,
+    BlockNo, Cell, ClientId, Epoch, Inc, Key, MapId, Op, Origin, Rev, Seq, Sequence, ServerId,
+    SharedBlock, Version,
 };
 use petal_command::{Command, Pax, ServerNumber};
 
@@ -97,11 +97,12 @@ pub enum Body {
         op: Op,
         cell: Cell,
     },
-    /// The lead has put its copy, and the second server is to follow.
+    /// The lead has put its copy, and the second server is to follow. It says for which write of a client, if it is for one.
     Replicate {
         op: Op,
         key: Key,
         version: Version,
+        origin: Option<Origin>,
         bytes: SharedBlock,
     },
     /// The second server has put its copy.

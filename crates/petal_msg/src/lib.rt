@@ -17,7 +17,7 @@ pub use body::Body;
 pub use copying::{CopyAction, Copying, LastCopy, LinkId, NextCopy, Progress};
 pub use letter::{Actor, Letter};
 pub use operation::{
-    Action, Ending, Finished, FollowProgress, LastOp, OpKind, Pending, Reply, Stage,
+    Action, Ending, Finished, FollowProgress, LastOp, OpKind, Pending, Reply, Stage, WriterNumber,
 };
 pub use owner::{Shared, SharedLetter};
 pub use retired::Retired;

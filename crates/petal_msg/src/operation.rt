@@ -1,7 +1,11 @@
 //! What two servers of a pair remember of an operation on one block.
 
 use busy_marks::MarkKind;
-use petal_base::{Cell, ClientId, Key, Op, Rev, Seq, SharedBlock, Version};
+use petal_base::{Cell, Key, Op, Rev, Seq, SharedBlock, Version};
+use petal_command::Below;
+
+/// A client that writes: one of a script's, 0 to 7, and not the operator. Contracts see the number.
+pub type WriterNumber = Below<8>;
 
 /// Why an operation was opened.
 #[derive(Clone, Copy, Debug, PartialEq, Eq)]
@@ -43,7 +47,8 @@ pub struct Pending {
     /// The version of the lead's own put, 0 before it.
     pub version: Version,
     pub stage: Stage,
-    pub client: ClientId,
+    /// Whose write it was opened for, 0 where it was opened for none.
+    pub client: WriterNumber,
     pub seq: Seq,
     /// The revision at which it was opened.
     pub rev: Rev,

@@ -16,7 +16,7 @@ use Rattle.spec_rules.specs.Ballots.{starts}
 use Rattle.spec_rules.specs.Boots.{awake, boots, raised, stays, wakes}
 use Rattle.spec_rules.specs.Entries.{applies}
 use Rattle.spec_rules.specs.Jobs.{Acted, does, down_posts, entered, faults, glance_sender, glances, here_of, operator, shown, is_log_job}
-use Rattle.spec_rules.specs.Jobs.{is_overfull, job_done, log_does, stops, voter_of, wanted_by, worked, works}
+use Rattle.spec_rules.specs.Jobs.{has_full_log, is_overfull, job_done, log_does, stops, voter_of, wanted_by, worked, works}
 use Rattle.spec_rules.specs.Clients.{Reaction, client_sender}
 use Rattle.spec_rules.specs.World.{Setting, World, Control, StepResult, MayServer, controls, step, stamped, clock_of, with_answer, client_step}
 use Rattle.spec_rules.specs.World.{server_step, next_line, lines_of, client_state, server_state}
@@ -220,7 +220,7 @@ woken_posts false here server stamp = record {
 
 boot_posts : (end : WorkEnd) (here : JobContext) (server : Server) (stamp : ℕ)
     → ArePosted (actor.Server here.me) stamp (stamped stamp (boots here server end).letters)
-boot_posts work_end.Done here server stamp = woken_posts (is_overfull (raised server)) here server stamp
+boot_posts work_end.Done here server stamp = woken_posts (has_full_log (raised server)) here server stamp
 boot_posts (work_end.Fault Before) here server stamp = record { sender = sender here; posts = []; from = refl; are = refl }
 boot_posts (work_end.Fault After) here server stamp = record { sender = sender here; posts = []; from = refl; are = refl }
 

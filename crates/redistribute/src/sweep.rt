@@ -87,8 +87,7 @@ fn unmark_one<D: Disk>(
 /// The next entry or mark is dropped, with one commit to the store.
 ///
 /// # Errors
-/// `Failed` where the device failed, and `JournalFull` only where the store's journal had all its records: the entries are as they
-/// were, and the server is to be stopped.
+/// `Failed` where the device failed: the entries are as they were, and the server is to be stopped.
 #[tactic(auto, unfolding(spec_rules::specs::Sweeping::sweeps))]
 pub fn sweep_one<D: Disk>(
     here: &JobContext,

@@ -16,7 +16,7 @@ use Rattle.spec_paxos.specs.declared.record.StateRecord.TheVariants.{Inc}
 use Rattle.spec_rules.proofs.Applied.{servers_after}
 use Rattle.spec_rules.specs.Boots.{awake, boots, known_prefix, raised, stays, wakes}
 use Rattle.spec_rules.specs.Entries.{known_run}
-use Rattle.spec_rules.specs.Jobs.{down_posts, is_overfull}
+use Rattle.spec_rules.specs.Jobs.{down_posts, has_full_log}
 use Rattle.petal_base.specs.Limits.{journal_records}
 use Rattle.spec_rules.specs.Log.{Log, first_log}
 use Rattle.spec_rules.specs.World.{greatest_u32}
@@ -49,12 +49,10 @@ module _ (old : ServerView) (store : Store) (before : List StateRecord) (known :
   raised_are = raised_adds before old.log.voter.inc known
 
   -- there is room
-  pub room : store.records ≤ journal_records → length (raised_records before) ≤ journal_records → is_overfull (raised was) ≡ false
-  room few_store few_log =
-      let few_raised : nat_lt journal_records (length (raised was).log.records) ≡ false = rw raised_are (few (length (raised_records before)) few_log) in
-      rw (few store.records few_store, few_raised) refl
+  pub room : length (raised_records before) ≤ journal_records → has_full_log (raised was) ≡ false
+  room few_log = rw raised_are (few journal_records (length (raised_records before)) few_log)
 
-  chosen : (full : Bool) → is_overfull (raised was) ≡ full → boots at was Done ≡ (if full then stays was else wakes at (awake (raised was)))
+  chosen : (full : Bool) → has_full_log (raised was) ≡ full → boots at was Done ≡ (if full then stays was else wakes at (awake (raised was)))
   chosen full is = ap (λ (b : Bool). if b then stays was else wakes at (awake (raised was))) is
 
   -- the server that runs, and its letters, are the rule's
@@ -62,9 +60,9 @@ module _ (old : ServerView) (store : Store) (before : List StateRecord) (known :
       → after ≡ raised_records before → count ≡ length after
       → ((log : Log) → log.records ≡ after → new ≡ booted old.log.voter (known_run log 1 count))
       → letters ≡ letters_of (sender_of new.log) 0 (down_posts old.log.voter.me old.log.voter.inc old.log.voter.servers)
-      → store.records ≤ journal_records → length after ≤ journal_records
+      → length after ≤ journal_records
       → acted new (shut store) after letters ≡ boots at was Done
-  woken new after letters count made counted is sent few_store few_log =
+  woken new after letters count made counted is sent few_log =
       let records : (raised was).log.records ≡ after = raised_are ∙ sym made in
       let applied : known_run (raised was).log 1 count ≡ known_prefix (raised was).log
       = ap (λ (n : ℕ). known_run (raised was).log 1 n) (counted ∙ ap (λ (rs : List StateRecord). length rs) (sym records)) in
@@ -80,7 +78,7 @@ module _ (old : ServerView) (store : Store) (before : List StateRecord) (known :
       ∙ ap (λ (n : ℕ). letters_of (record { from = actor.Server old.log.voter.me; inc = old.log.voter.inc + 1; rev = length (known_prefix (raised was).log) }) 0
       (down_posts old.log.voter.me old.log.voter.inc n)) (sym (servers_after old.log.voter.servers old.log.applied)) in
       (λ i. acted (core i) (shut store) (sym records i) (observed i))
-      ∙ sym (chosen false (room few_store fits))
+      ∙ sym (chosen false (room fits))
 
 -- what a crash leaves, by how many records there are
 pub with_or_without : {D : Type 0} (device : Ghosts D) (old new : D) (records : List StateRecord)
@@ -122,9 +120,9 @@ module _ {D : Type 0} (device : Ghosts D) (old : ServerView) (before : Keeping D
   booted_done new after letters made is sent holds left later run =
       let core = is (record first_log { records = after.records }) refl in
       record {
-        step = λ observed held store few.
+        step = λ observed held store.
             let after_holds = holds observed held in
-            woken old store before.records known new after.records letters after.region.count made after_holds.count is sent few
+            woken old store before.records known new after.records letters after.region.count made after_holds.count is sent
             (few_records device after after_holds);
         runs = ap (λ (it : ServerView). it.running) core;
         voter = ap (λ (it : ServerView). it.log.voter) core;

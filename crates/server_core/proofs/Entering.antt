@@ -9,12 +9,11 @@ use Rattle.server_log.specs.Entered.{entry_of, next_known}
 use Rattle.server_log.specs.Part.{Part, log_of, sender_of, state_of}
 use Rattle.server_log.specs.declared.memory.entries.Entered.{Entered}
 use Rattle.server_log.specs.declared.memory.done.LogDone.{LogDone}
-use Rattle.pair_memory.specs.Crossed.{IsEntered, lacks_room}
+use Rattle.pair_memory.specs.Crossed.{IsEntered}
 use Rattle.pair_memory.specs.JobResult.{HoldsAt}
 use Rattle.pair_memory.specs.PairMemory.{PairMemory, own_of}
 use Rattle.pair_memory.specs.declared.error.WorkError.{WorkError}
-use Rattle.pair_memory.specs.declared.error.WorkError.TheVariants.{Failed, JournalFull, NoMemory, Exhausted}
-use Rattle.pair_memory.proofs.Entering.{lacking}
+use Rattle.pair_memory.specs.declared.error.WorkError.TheVariants.{Failed, NoRoom, NoMemory, Exhausted}
 use Rattle.petal_command.specs.declared.command.Command.{Command}
 use Rattle.petal_disk.specs.Disk.{LeavesOnly}
 use Rattle.petal_disk.specs.declared.disk.Disk.{Ghosts}
@@ -30,8 +29,8 @@ use Rattle.spec_rules.specs.Store.{Store}
 use Rattle.spec_rules.specs.declared.job.Job.TheVariants as job
 use Rattle.server_core.specs.ServerView.{ServerView, here_in, left_by_first}
 use Rattle.server_core.specs.Work.{IsStoreWork}
-use Rattle.server_core.proofs.Rooms.{few_stored, full_stored}
-use Rattle.server_core.proofs.Works.{entry_left, entry_stops, entry_worked}
+use Rattle.server_core.proofs.Rooms.{few_marked}
+use Rattle.server_core.proofs.Works.{entry_left, entry_logged, entry_worked}
 use Rattle.server_store.specs.Holdings.{Holdings}
 
 -- an entry that was applied makes the state after it
@@ -59,6 +58,7 @@ module _ {D A B : Type 0} (device : Ghosts D) {here : JobContext} {entry : Optio
     holds = is.holds;
     moments = is.moments;
     kept = is.kept;
+    stays = tt;
     errors = tt;
     cause = record { later = is.cause.later; failed = λ no. absurd (cc) };
     run = is.run;
@@ -72,6 +72,7 @@ module _ {D A B : Type 0} (device : Ghosts D) {here : JobContext} {entry : Optio
     holds = λ _ _. tt;
     moments = is.moments;
     kept = is.kept;
+    stays = is.stays;
     errors = is.errors;
     cause = record { later = is.cause.later; failed = λ _. is.cause.failed (ap Err is.errors) };
     run = is.run;
@@ -83,7 +84,7 @@ module _ {D : Type 0} (device : Ghosts D) (records : List StateRecord) (old : Se
   rule = crossed_by (here_in old) (next_known old.log records) (own_of old.side before)
 
   abbrev Leaves : Holdings D → Store → Type 0
-  Leaves after left = LeavesOnly device.moment device.left_since before.disk after.disk (StandsAsEither (store_of before) left)
+  Leaves after left = LeavesOnly device.moment device.left_since before.disk after.disk (StandsAsEither before left)
 
   left_as : (after : Holdings D) → Leaves after rule.store → Leaves after (left_by_first old (store_of before) records).own.store
   left_as after = subst (Leaves after) (entry_left old (store_of before) records there)
@@ -98,7 +99,8 @@ module _ {D : Type 0} (device : Ghosts D) (records : List StateRecord) (old : Se
   applied_work new after made done entered by running voter queue = record {
     work = λ observed holds few_log.
         entry_worked old (store_of before) records there new (store_of after) done by running voter (entered.own observed) queue
-        (few_stored device after (entered.holds observed holds)) few_log;
+        (few_marked device after (entered.holds observed holds)) few_log;
+    logged = entry_logged old (store_of before) records there;
     life = (running, voter);
     keeps = entered.keeps;
     holds = entered.holds;
@@ -106,6 +108,7 @@ module _ {D : Type 0} (device : Ghosts D) (records : List StateRecord) (old : Se
     still = λ no. absurd (cc);
     same = λ no. absurd (cc);
     kept = tt;
+    stays = tt;
     full = λ no. absurd (cc);
     spent = λ no. absurd (cc);
     cause = record { later = entered.cause.later; failed = λ no. absurd (cc) };
@@ -119,6 +122,7 @@ module _ {D : Type 0} (device : Ghosts D) (records : List StateRecord) (old : Se
       → IsStoreWork device records old new before after (Err e)
   applied_failed new after e is entered running voter = record {
     work = tt;
+    logged = entry_logged old (store_of before) records there;
     life = (running, voter);
     keeps = tt;
     holds = λ _ _. tt;
@@ -126,6 +130,7 @@ module _ {D : Type 0} (device : Ghosts D) (records : List StateRecord) (old : Se
     still = λ no. absurd (cc);
     same = λ no. absurd (cc);
     kept = entered.kept;
+    stays = entered.stays;
     full = λ no. absurd (cc);
     spent = λ no. absurd (cc);
     cause = record { later = entered.cause.later; failed = λ _. entered.cause.failed (ap Err is) };
@@ -140,6 +145,7 @@ module _ {D : Type 0} (device : Ghosts D) (records : List StateRecord) (old : Se
     pub applied_nothing : (new : ServerView) → new ≡ old → IsStoreWork device records old new before before (Err NoMemory)
     applied_nothing new same = record {
       work = tt;
+      logged = entry_logged old (store_of before) records there;
       life = (ap (λ (it : ServerView). it.running) same, ap (λ (it : ServerView). it.log.voter) same);
       keeps = tt;
       holds = λ _ _. tt;
@@ -147,6 +153,7 @@ module _ {D : Type 0} (device : Ghosts D) (records : List StateRecord) (old : Se
       still = λ _ _ holds. holds;
       same = λ _. (same, refl);
       kept = λ _. refl;
+      stays = refl;
       full = λ no. absurd (cc);
       spent = λ no. absurd (cc);
       cause = record { later = omega arith; failed = λ no. absurd (cc) };
@@ -161,42 +168,9 @@ module _ {D : Type 0} (device : Ghosts D) (records : List StateRecord) (old : Se
         → new.running ≡ old.running → new.log.voter ≡ old.log.voter → new.queue ≡ old.queue
         → IsStoreWork device records old new before left (Err e)
     applied_not new left Failed entered same running voter queue = applied_failed new left Failed refl (entered (λ no. absurd (cc))) running voter
-    applied_not new left JournalFull entered same running voter queue = let e = (entered (λ no. absurd (cc))).errors in absurd (cc)
+    applied_not new left NoRoom entered same running voter queue = let e = (entered (λ no. absurd (cc))).errors in absurd (cc)
     applied_not new left NoMemory entered same running voter queue =
         let is = same refl in
         subst (λ (held : Holdings D). IsStoreWork device records old new before held (Err NoMemory)) (sym is.2)
         (applied_nothing new (λ i. record { running = running i; log = is.0 i; side = is.1 i; queue = queue i }))
     applied_not new left Exhausted entered same running voter queue = let e = (entered (λ no. absurd (cc))).errors in absurd (cc)
-
-    -- the journal has no room for its record
-    pub applied_full : lacks_room old.log.voter.me old.log.voter.inc (next_known old.log records) before ≡ true
-        → (new : ServerView) → new ≡ old → IsStoreWork device records old new before before (Err JournalFull)
-    applied_full lacks new same =
-        let full = lacking (here_in old) (next_known old.log records) old.side before lacks in
-        record {
-          work = tt;
-          life = (ap (λ (it : ServerView). it.running) same, ap (λ (it : ServerView). it.log.voter) same);
-          keeps = tt;
-          holds = λ _ _. tt;
-          moments = λ _. same_moments;
-          still = λ no. absurd (cc);
-          same = λ no. absurd (cc);
-          kept = λ _. refl;
-          full = λ _. record {
-            count = full.0;
-            same = (same, refl);
-            stops = λ _ holds. entry_stops old (store_of before) records there (full_stored device before holds full.0 _ full.1);
-          };
-          spent = λ no. absurd (cc);
-          cause = record { later = omega arith; failed = λ no. absurd (cc) };
-          run = stays before.disk;
-        }
-
-    -- it was refused before anything changed
-    pub applied_refused : (new : ServerView) → new ≡ old → (e : WorkError) → (e ≢ Failed) × (e ≢ Exhausted)
-        → (e ≡ JournalFull → lacks_room old.log.voter.me old.log.voter.inc (next_known old.log records) before ≡ true)
-        → IsStoreWork device records old new before before (Err e)
-    applied_refused new same Failed other lacks = absurd (other.0 refl)
-    applied_refused new same JournalFull other lacks = applied_full (lacks refl) new same
-    applied_refused new same NoMemory other lacks = applied_nothing new same
-    applied_refused new same Exhausted other lacks = absurd (other.1 refl)

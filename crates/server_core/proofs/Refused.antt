@@ -7,7 +7,7 @@ use Rattle.server_log.specs.Part.{Part}
 use Rattle.server_log.specs.declared.memory.done.LogDone.{LogDone}
 use Rattle.pair_memory.specs.PairMemory.{PairMemory}
 use Rattle.pair_memory.specs.declared.error.WorkError.{WorkError}
-use Rattle.pair_memory.specs.declared.error.WorkError.TheVariants.{Failed, JournalFull, NoMemory, Exhausted}
+use Rattle.pair_memory.specs.declared.error.WorkError.TheVariants.{Failed, NoRoom, NoMemory, Exhausted}
 use Rattle.petal_disk.specs.Disk.{LeavesOnly}
 use Rattle.petal_disk.specs.declared.disk.Disk.{Ghosts}
 use Rattle.spec_rules.specs.Log.{LogDone as Rule}
@@ -56,7 +56,7 @@ module _ {D : Type 0} (device : Ghosts D) (store : Store) (old new : ServerView)
       }
 
   -- the job's refusal is told by that of the state store
-  refused_as : (e : StateError) (w : WorkError) → (w ≡ Failed → e ≡ state.Failed) → (w ≡ JournalFull → e ≡ state.JournalFull)
+  refused_as : (e : StateError) (w : WorkError) → (w ≡ Failed → e ≡ state.Failed) → (w ≡ NoRoom → e ≡ state.JournalFull)
       → (w ≡ NoMemory → e ≡ state.NoMemory) → (w ≡ Exhausted → e ≡ state.Exhausted) → IsLogDone device old.log new.log before after (Err e) rule
       → IsLogWork device store old new before after (Err w)
   refused_as e w failed full nothing spent done = record {
@@ -78,6 +78,6 @@ module _ {D : Type 0} (device : Ghosts D) (store : Store) (old new : ServerView)
   refused_work state.Failed done = refused_as state.Failed Failed (λ _. refl) (λ no. absurd (cc)) (λ no. absurd (cc)) (λ no. absurd (cc)) done
   refused_work state.Blank done = absurd (done.only)
   refused_work (state.BadRecord index) done = absurd (done.only)
-  refused_work state.JournalFull done = refused_as state.JournalFull JournalFull (λ no. absurd (cc)) (λ _. refl) (λ no. absurd (cc)) (λ no. absurd (cc)) done
+  refused_work state.JournalFull done = refused_as state.JournalFull NoRoom (λ no. absurd (cc)) (λ _. refl) (λ no. absurd (cc)) (λ no. absurd (cc)) done
   refused_work state.NoMemory done = refused_as state.NoMemory NoMemory (λ no. absurd (cc)) (λ no. absurd (cc)) (λ _. refl) (λ no. absurd (cc)) done
   refused_work state.Exhausted done = refused_as state.Exhausted Exhausted (λ no. absurd (cc)) (λ no. absurd (cc)) (λ no. absurd (cc)) (λ _. refl) done

@@ -1,22 +1,25 @@
--- A device that shows its store has no more records than its journal has room for.
-use Rattle.std.proofs.Common.{◌≡◌, ◌≤◌, ℕ, ◌+◌, length, arith}
+-- A device that shows its store has no more marks and rows, or records, than there may be.
+use Rattle.std.proofs.Common.{◌≡◌, ◌≤◌, ℕ, ◌+◌, length, subst, arith}
 use Rattle.std.proofs.lemmas.List.{length-map}
+use Rattle.kept_chains.proofs.Commits.{kept_by}
+use Rattle.kept_chains.specs.Kept.{store_of}
 use Rattle.server_log.specs.Done as logs
 use Rattle.pair_memory.specs.JobResult.{HoldsAt}
 use Rattle.petal_disk.specs.declared.disk.Disk.{Ghosts}
-use Rattle.petal_base.specs.Limits.{journal_records}
+use Rattle.petal_base.specs.Limits.{journal_records, marks_limit}
+use Rattle.data_device.specs.Kept.{IsWithin, kept_of}
+use Rattle.data_device.proofs.Held.{within_of}
 use Rattle.server_store.specs.Holdings.{Holdings}
+use Rattle.server_store.specs.Shown.{picture_of}
+use Rattle.spec_rules.specs.Store.{marked_by}
 use Rattle.state_store.specs.Body.{body_of}
 use Rattle.state_store.specs.Device.{Keeping}
-use Rattle.data_device.specs.Spelling.{spelling}
 
 module _ {D : Type 0} (device : Ghosts D) where
-  module _ (store : Holdings D) (holds : HoldsAt device store) where
-    pub few_stored : length store.log.records ≤ journal_records
-    few_stored = let few = holds.now.stands.stands.few in let same = length-map store.log.records spelling in omega (arith, few, same)
-
-    pub full_stored : store.log.region.count ≡ journal_records → (more : ℕ) → more ≡ length store.log.records + 1 → more ≡ journal_records + 1
-    full_stored count more is = let counted = holds.count in omega (arith, count, is, counted)
+  pub few_marked : (store : Holdings D) → HoldsAt device store → marked_by (store_of store) ≤ marks_limit
+  few_marked store holds =
+      subst IsWithin (kept_by (device.seen store.disk) (kept_of store.log.fresh store.log.records) (picture_of store) holds.shown)
+      (within_of store.slots store.log.fresh store.log.records holds.logs.now.fit)
 
   module _ (state : Keeping D) (holds : logs.HoldsAt device state) where
     pub few_records : length state.records ≤ journal_records

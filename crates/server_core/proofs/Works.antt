@@ -1,6 +1,6 @@
 -- The first job of a queue, by which part of a server does it.
 use Rattle.std.proofs.Common.{◌≡◌, ◌≤◌, ◌||◌, nat_lt, ℕ, ◌+◌, Bool, true, false, List, [], ◌∷◌, ◌++◌, drop, length, Option}
-use Rattle.std.proofs.Common.{Some, if◌then◌else◌, refl, sym, ap, ◌∙◌, arith}
+use Rattle.std.proofs.Common.{None, Some, if◌then◌else◌, refl, sym, ap, ◌∙◌, arith}
 use Rattle.std.proofs.lemmas.Bool.Decides.{nat_tests}
 use Rattle.std.specs.Prelude.{slice_get, slice_index_or, IsSomeAnd}
 use Rattle.spec_rules.proofs.Applied.{servers_after}
@@ -11,11 +11,11 @@ use Rattle.petal_command.specs.declared.command.Command.{Command}
 use Rattle.petal_msg.specs.declared.letter.Letter.{Letter}
 use Rattle.spec_paxos.specs.declared.record.StateRecord.{StateRecord}
 use Rattle.spec_rules.specs.Crossing.{crossed_by, jobs_by}
-use Rattle.spec_rules.specs.Entries.{applies}
+use Rattle.spec_rules.specs.Entries.{applies, applies_known}
 use Rattle.spec_rules.specs.Jobs.{Acted, crossing, does, is_log_job, job_done, stops, voter_of, where_room, worked, works}
 use Rattle.spec_rules.specs.Log.{Log, Voter, known, next_place}
 use Rattle.spec_rules.specs.Server.{JobResult, JobContext, PairState, Server, letters_of, sender}
-use Rattle.spec_rules.specs.Store.{Store}
+use Rattle.spec_rules.specs.Store.{Store, marked_by}
 use Rattle.spec_rules.specs.declared.job.Job.{Job}
 use Rattle.spec_rules.specs.declared.job.Job.TheVariants as job
 use Rattle.server_core.specs.ServerView.{ServerView, acted, after_first, here_in, left_by_first, server_of}
@@ -23,7 +23,7 @@ use Rattle.server_jobs.specs.Wants.{own_in}
 use Rattle.server_jobs.specs.Kind.{kind_of}
 use Rattle.server_jobs.specs.Ballots.{IsLeft, log_rule, own_left}
 use Rattle.server_jobs.specs.declared.queue.Kind.TheVariants.{Applies, OfLog, OfPairs}
-use Rattle.petal_base.specs.Limits.{journal_records}
+use Rattle.petal_base.specs.Limits.{journal_records, marks_limit}
 
 -- ### Which part does it
 
@@ -78,33 +78,33 @@ pub first_is : (queue : List Job) (first : Job) (P : Job → Type 0) → IsSomeA
 first_is [] first P none is = absurd none
 first_is (j ∷ rest) first P some is = ap Some (sym is)
 
-pub few : (n : ℕ) → n ≤ journal_records → nat_lt journal_records n ≡ false
-few n le = grind (arith, nat_tests)
+pub few : (limit n : ℕ) → n ≤ limit → nat_lt limit n ≡ false
+few limit n le = grind (arith, nat_tests)
 
-pub many : (n : ℕ) → n ≡ journal_records + 1 → nat_lt journal_records n ≡ true
-many n is = grind (arith, nat_tests)
+pub many : (limit n : ℕ) → n ≡ limit + 1 → nat_lt limit n ≡ true
+many limit n is = grind (arith, nat_tests)
 
--- where both journals have room for what the job leaves
-pub fits : (here : JobContext) (server : Server) (left : Acted) → left.server.own.store.records ≤ journal_records
+-- where both devices have room for what the job leaves
+pub fits : (here : JobContext) (server : Server) (left : Acted) → marked_by left.server.own.store ≤ marks_limit
     → length left.server.log.records ≤ journal_records
     → where_room here server left ≡ left
-fits here server left store records =
-    rw (few left.server.own.store.records store, few (length left.server.log.records) records) refl
+fits here server left marked records =
+    rw (few journal_records (length left.server.log.records) records, few marks_limit (marked_by left.server.own.store) marked) refl
 
 -- where the data device has none, and where the state device has none
-full_store : (here : JobContext) (server : Server) (left : Acted) → left.server.own.store.records ≡ journal_records + 1
+full_store : (here : JobContext) (server : Server) (left : Acted) → marked_by left.server.own.store ≡ marks_limit + 1
     → where_room here server left ≡ stops here server
-full_store here server left more = rw (many left.server.own.store.records more) refl
+full_store here server left more =
+    let stop = stops here server in
+    let over = nat_lt marks_limit (marked_by left.server.own.store) in
+    elim (nat_lt journal_records (length left.server.log.records)) as (λ b. (if b || over then stop else left) ≡ stop) [
+      | true ↦ refl
+      | false ↦ rw (many marks_limit (marked_by left.server.own.store) more) refl
+    ]
 
 full_log : (here : JobContext) (server : Server) (left : Acted) → length left.server.log.records ≡ journal_records + 1
     → where_room here server left ≡ stops here server
-full_log here server left more =
-    let stop = stops here server in
-    let over = nat_lt journal_records (length left.server.log.records) in
-    elim (nat_lt journal_records left.server.own.store.records) as (λ b. (if b || over then stop else left) ≡ stop) [
-      | true ↦ refl
-      | false ↦ rw (many (length left.server.log.records) more) refl
-    ]
+full_log here server left more = rw (many journal_records (length left.server.log.records) more) refl
 
 -- ### Jobs of the pairs
 
@@ -119,7 +119,7 @@ module _ (core : ServerView) (store : Store) (records : List StateRecord)
   abbrev done : JobResult
   done = does here server.own first
 
-  pub pair_works : done.own.store.records ≤ journal_records → length records ≤ journal_records
+  pub pair_works : marked_by done.own.store ≤ marks_limit → length records ≤ journal_records
       → works here server core.queue ≡ worked here server (drop 1 core.queue) done
   pair_works few_store few_log =
       first_done here server core.queue first there ∙ ap (where_room here server) (job_pair here server first (drop 1 core.queue) kind)
@@ -129,7 +129,11 @@ module _ (core : ServerView) (store : Store) (records : List StateRecord)
   pair_left = sym (ap (λ (it : Server). it.own.store)
       (first_left here server core.queue first there ∙ ap (λ (left : Acted). left.server) (job_pair here server first (drop 1 core.queue) kind)))
 
-  pub pair_stops : done.own.store.records ≡ journal_records + 1 → works here server core.queue ≡ stops here server
+  pub pair_logged : (left_by_first core store records).log.records ≡ records
+  pair_logged = ap (λ (it : Server). it.log.records)
+      (first_left here server core.queue first there ∙ ap (λ (left : Acted). left.server) (job_pair here server first (drop 1 core.queue) kind))
+
+  pub pair_stops : marked_by done.own.store ≡ marks_limit + 1 → works here server core.queue ≡ stops here server
   pair_stops more =
       first_done here server core.queue first there ∙ ap (where_room here server) (job_pair here server first (drop 1 core.queue) kind)
       ∙ full_store here server (worked here server (drop 1 core.queue) done) more
@@ -185,7 +189,7 @@ module _ (core : ServerView) (store : Store) (records : List StateRecord)
       (first_left at it core.queue first there ∙ ap (λ (left : Acted). left.server) (log_entered core store records first kind
       ∙ ap (λ (voter : Voter). left_by voter) (voter_is core))))
 
-  pub log_works : (left_by core.log.voter).server.own.store.records ≤ journal_records
+  pub log_works : marked_by (left_by core.log.voter).server.own.store ≤ marks_limit
       → length (log_rule core.log core.side store records first core.log.voter).log.records ≤ journal_records
       → works at it core.queue ≡ left_by core.log.voter
   log_works few_store few_log = entered_is ∙ fits at it (left_by core.log.voter) few_store few_log
@@ -206,7 +210,7 @@ pub log_worked : (old new : ServerView) (store : Store) (before after : List Sta
     → IsBy (sender_of old.log) (log_of new.log after) done (log_rule old.log old.side store before first old.log.voter)
     → IsLeft old.log old.side store before first new.side
     → new.running ≡ old.running → new.log.voter ≡ old.log.voter → new.queue ≡ drop 1 old.queue ++ follow_ups done
-    → store.records ≤ journal_records → length after ≤ journal_records
+    → marked_by store ≤ marks_limit → length after ≤ journal_records
     → acted new store after done.letters ≡ works (here_in old) (server_of old store before) old.queue
 unfolding made
 log_worked old new store before after first done there kind by left running voter queue few_store few_log =
@@ -216,13 +220,19 @@ log_worked old new store before after first done there kind by left running vote
     let inc : new.log.voter.inc ≡ old.log.voter.inc = ap (λ (v : Voter). v.inc) voter in
     let records : length rule.log.records ≤ journal_records =
     (let same : length after ≡ length rule.log.records = ap (λ (log : Log). length log.records) by.log in omega (arith, same)) in
-    let stored : (own_left old.log old.side store before first old.log.voter).store.records ≤ journal_records =
-    (let same : store.records ≡ (own_left old.log old.side store before first old.log.voter).store.records = ap (λ (o : PairState). o.store.records) own in
-    omega (arith, same)) in
+    let stored : marked_by (own_left old.log old.side store before first old.log.voter).store ≤ marks_limit =
+    (let same : marked_by store ≡ marked_by (own_left old.log old.side store before first old.log.voter).store
+    = ap (λ (o : PairState). marked_by o.store) own in
+    omega (arith, same, few_store)) in
     (λ i. made (running i) (inc i) (by.log i) (own i) (jobs i) (by.letters i))
     ∙ sym (log_works old store before first there kind stored records)
 
 -- ### An entry
+
+-- an entry that is applied adds no record
+pub applies_records : (log : Log) (next : Option Command) → (applies_known log next).log.records ≡ log.records
+applies_records log None = refl
+applies_records log (Some entry) = refl
 
 module _ (old : ServerView) (before : Store) (records : List StateRecord) (there : slice_get old.queue 0 ≡ Some job.Apply) where
   abbrev where_old : JobContext
@@ -240,7 +250,7 @@ module _ (old : ServerView) (before : Store) (records : List StateRecord) (there
   abbrev stages : List Job
   stages = jobs_by where_old.state where_old.me entry was.own
 
-  entry_works : own_after.store.records ≤ journal_records → length (applies was.log).log.records ≤ journal_records
+  entry_works : marked_by own_after.store ≤ marks_limit → length (applies was.log).log.records ≤ journal_records
       → works where_old was old.queue ≡ crossing where_old was (drop 1 old.queue) entry (applies was.log)
   entry_works few_store few_log = first_done where_old was old.queue job.Apply there ∙ fits where_old was _ few_store few_log
 
@@ -250,22 +260,22 @@ module _ (old : ServerView) (before : Store) (records : List StateRecord) (there
   pub entry_left : own_after.store ≡ (left_by_first old before records).own.store
   entry_left = sym (ap (λ (it : Server). it.own.store) entry_done)
 
-  pub entry_stops : own_after.store.records ≡ journal_records + 1 → works where_old was old.queue ≡ stops where_old was
-  entry_stops more = first_done where_old was old.queue job.Apply there
-      ∙ full_store where_old was (crossing where_old was (drop 1 old.queue) entry (applies was.log)) more
+  pub entry_logged : (left_by_first old before records).log.records ≡ records
+  unfolding applies
+  entry_logged = ap (λ (it : Server). it.log.records) entry_done ∙ applies_records was.log entry
 
   -- an entry is applied as the rule says
   pub entry_worked : (new : ServerView) (after : Store) (done : LogDone) → IsBy (sender_of old.log) (log_of new.log records) done (applies was.log)
       → new.running ≡ old.running → new.log.voter ≡ old.log.voter → own_in new.side after ≡ own_after
       → new.queue ≡ (drop 1 old.queue ++ follow_ups done) ++ stages
-      → after.records ≤ journal_records → length records ≤ journal_records
+      → marked_by after ≤ marks_limit → length records ≤ journal_records
       → acted new after records done.letters ≡ works where_old was old.queue
   unfolding made
   entry_worked new after done by running voter own queue few_store few_log =
       let jobs = queue ∙ ap (λ (js : List Job). (drop 1 old.queue ++ js) ++ stages) by.jobs in
       let inc : new.log.voter.inc ≡ old.log.voter.inc = ap (λ (v : Voter). v.inc) voter in
-      let few_stored : own_after.store.records ≤ journal_records =
-      (let same : after.records ≡ own_after.store.records = ap (λ (o : PairState). o.store.records) own in omega (arith, same)) in
+      let few_stored : marked_by own_after.store ≤ marks_limit =
+      (let same : marked_by after ≡ marked_by own_after.store = ap (λ (o : PairState). marked_by o.store) own in omega (arith, same, few_store)) in
       let few_known : length (applies was.log).log.records ≤ journal_records =
       (let same : length records ≡ length (applies was.log).log.records = ap (λ (l : Log). length l.records) by.log in omega (arith, same)) in
       (λ i. made (running i) (inc i) (by.log i) (own i) (jobs i) (by.letters i)) ∙ sym (entry_works few_stored few_known)

@@ -5,7 +5,7 @@ use Rattle.server_log.specs.Part.{new_part}
 use Rattle.pair_memory.specs.JobResult.{HasFault}
 use Rattle.pair_memory.specs.PairMemory.{new_side}
 use Rattle.pair_memory.specs.declared.error.WorkError.{WorkError}
-use Rattle.pair_memory.specs.declared.error.WorkError.TheVariants.{Failed, JournalFull}
+use Rattle.pair_memory.specs.declared.error.WorkError.TheVariants.{Failed, NoRoom}
 use Rattle.petal_command.specs.declared.command.Command.{Command}
 use Rattle.petal_disk.specs.declared.disk.Disk.{Ghosts}
 use Rattle.petal_disk.specs.Disk.{LeavesOnly}
@@ -20,7 +20,6 @@ use Rattle.spec_rules.specs.Store.{Store}
 use Rattle.spec_rules.specs.declared.step.WorkEnd.TheVariants.{Done}
 use Rattle.server_core.specs.ServerView.{ServerView, acted, here_in, server_of}
 use Rattle.state_store.specs.Device.{Keeping, StandsForEither}
-use Rattle.petal_base.specs.Limits.{journal_records}
 
 -- the same server as its next incarnation
 abbrev pub next_voter : Voter → Voter
@@ -55,10 +54,10 @@ module _ {D : Type 0} where
     pub stays : device.observable → logs.HoldsAt device before → (store : Store)
         → boots (here_in old) (server_of old store before.records) Done ≡ stays (server_of old store before.records)
 
-  -- the server boots as the rule says where the device tells its bytes and stands for the records, at each store that fits its
-  -- journal. A crash at any moment leaves the records before, or those with the next incarnation
+  -- the server boots as the rule says where the device tells its bytes and stands for the records, at each store. A
+  -- crash at any moment leaves the records before, or those with the next incarnation
   pub record IsBoot (device : Ghosts D) (old new : ServerView) (before after : Keeping D) (result : Result (List Letter) WorkError) : Type 0 where
-    pub step : IfOk result (λ letters. device.observable → logs.HoldsAt device before → (store : Store) → store.records ≤ journal_records
+    pub step : IfOk result (λ letters. device.observable → logs.HoldsAt device before → (store : Store)
         → acted new (shut store) after.records letters ≡ boots (here_in old) (server_of old store before.records) Done)
     pub runs : OnOk result (new.running ≡ true)
     pub voter : OnOk result (new.log.voter ≡ next_voter old.log.voter)
@@ -69,6 +68,6 @@ module _ {D : Type 0} where
         → LeavesOnly device.moment device.left_since before.disk after.disk (StandsForEither before.records (raised_records before.records))
     pub same : OnErr result (new ≡ old)
     pub kept : result ≡ Err Failed → after.records ≡ before.records
-    pub full : result ≡ Err JournalFull → IsFullBoot device old new before after
+    pub full : result ≡ Err NoRoom → IsFullBoot device old new before after
     pub cause : HasFault (device.faults before.disk) (device.faults after.disk) result
     pub run : device.came_to before.disk after.disk

@@ -6,27 +6,26 @@ use Rattle.server_log.specs.Done as logs
 use Rattle.pair_memory.specs.JobResult.{HasFault, HoldsAt}
 use Rattle.pair_memory.specs.PairMemory.{HasTicketsAt}
 use Rattle.pair_memory.specs.declared.error.WorkError.{WorkError}
-use Rattle.pair_memory.specs.declared.error.WorkError.TheVariants.{Failed, JournalFull, NoMemory, Exhausted}
+use Rattle.pair_memory.specs.declared.error.WorkError.TheVariants.{Failed, NoRoom, NoMemory, Exhausted}
 use Rattle.petal_disk.specs.declared.disk.Disk.{Ghosts}
 use Rattle.petal_disk.specs.Disk.{LeavesOnly}
 use Rattle.petal_msg.specs.declared.letter.Letter.{Letter}
 use Rattle.spec_paxos.specs.declared.record.StateRecord.{StateRecord}
 use Rattle.spec_rules.specs.Jobs.{stops, works}
-use Rattle.petal_base.specs.Limits.{journal_records}
-use Rattle.spec_rules.specs.Store.{Store}
+use Rattle.petal_base.specs.Limits.{journal_records, marks_limit}
+use Rattle.spec_rules.specs.Store.{Store, marked_by}
 use Rattle.server_core.specs.ServerView.{ServerView, acted, here_in, left_by_first, server_of}
-use Rattle.server_store.specs.Holdings.{Holdings}
+use Rattle.server_store.specs.Holdings.{Holdings, kept_in, marked_in}
 use Rattle.state_store.specs.Device.{Keeping, StandsForEither}
 use Rattle.state_store.specs.declared.error.StateError.{StateError}
 use Rattle.state_store.specs.declared.error.StateError.TheVariants as state
-use Rattle.petal_base.specs.Limits.{journal_records}
 
 -- what a refusal of the state store means for a job
 abbrev pub of_state : StateError → WorkError
 of_state state.Failed = Failed
 of_state state.Blank = Failed
 of_state (state.BadRecord index) = Failed
-of_state state.JournalFull = JournalFull
+of_state state.JournalFull = NoRoom
 of_state state.NoMemory = NoMemory
 of_state state.Exhausted = Exhausted
 
@@ -36,28 +35,31 @@ Stops old store records =
     works (here_in old) (server_of old store records) old.queue ≡ stops (here_in old) (server_of old store records)
 
 module _ {D : Type 0} where
-  -- the data device's journal has no room for the record of the first job, and nothing changed
+  -- the data device has no room for the mark of the first job, and nothing changed
   pub record IsFullStore (device : Ghosts D) (records : List StateRecord) (old new : ServerView) (before after : Holdings D) : Type 0 where
-    pub count : before.log.region.count ≡ journal_records
+    pub count : marked_in before ≡ marks_limit
     pub same : (new ≡ old) × (after ≡ before)
     pub stops : device.observable → HoldsAt device before → Stops old (store_of before) records
 
   -- the first job, of the pairs or that applies an entry, is done as the rule says at these records of the state device, where
-  -- the data device tells its bytes and shows the store; the rest is as of each job of the pairs. The state device is not called
+  -- the data device tells its bytes and shows the store; the rest is as of each job of the pairs. By the rule no record is
+  -- committed, and the state device is not called
   pub record IsStoreWork (device : Ghosts D) (records : List StateRecord) (old new : ServerView) (before after : Holdings D)
       (result : Result (List Letter) WorkError) : Type 0 where
     pub work : IfOk result (λ letters. device.observable → HoldsAt device before → length records ≤ journal_records
         → acted new (store_of after) records letters ≡ works (here_in old) (server_of old (store_of before) records) old.queue)
+    pub logged : (left_by_first old (store_of before) records).log.records ≡ records
     pub life : (new.running ≡ old.running) × (new.log.voter ≡ old.log.voter)
     pub keeps : OnOk result (HasTicketsAt new.side after)
     pub holds : device.observable → HoldsAt device before → OnOk result (HoldsAt device after)
     pub moments : device.observable → HoldsAt device before
         → LeavesOnly device.moment device.left_since before.disk after.disk
-        (StandsAsEither (store_of before) (left_by_first old (store_of before) records).own.store)
+        (StandsAsEither before (left_by_first old (store_of before) records).own.store)
     pub still : result ≡ Err NoMemory → device.observable → HoldsAt device before → HoldsAt device after
     pub same : result ≡ Err NoMemory → (new ≡ old) × (after ≡ record before { disk = after.disk })
     pub kept : OnErr result (device.observable → after.entries ≡ before.entries)
-    pub full : result ≡ Err JournalFull → IsFullStore device records old new before after
+    pub stays : OnErr result (kept_in after ≡ kept_in before)
+    pub full : result ≡ Err NoRoom → IsFullStore device records old new before after
     pub spent : result ≡ Err Exhausted → (new ≡ old) × (after ≡ record before { disk = after.disk })
     pub cause : HasFault (device.faults before.disk) (device.faults after.disk) result
     pub run : device.came_to before.disk after.disk
@@ -72,7 +74,7 @@ module _ {D : Type 0} where
   -- records; the rest is as of each job of the log. The store is not called
   pub record IsLogWork (device : Ghosts D) (store : Store) (old new : ServerView) (before after : Keeping D)
       (result : Result (List Letter) WorkError) : Type 0 where
-    pub work : IfOk result (λ letters. device.observable → logs.HoldsAt device before → store.records ≤ journal_records
+    pub work : IfOk result (λ letters. device.observable → logs.HoldsAt device before → marked_by store ≤ marks_limit
         → acted new store after.records letters ≡ works (here_in old) (server_of old store before.records) old.queue)
     pub life : (new.running ≡ old.running) × (new.log.voter ≡ old.log.voter)
     pub side : new.side ≡ record old.side { copies = new.side.copies }
@@ -83,13 +85,13 @@ module _ {D : Type 0} where
     pub same : result ≡ Err NoMemory → (new ≡ old) × (after ≡ before)
     pub spent : result ≡ Err Exhausted → (new ≡ old) × (after ≡ before)
     pub kept : OnErr result (after.records ≡ before.records)
-    pub full : result ≡ Err JournalFull → IsFullLog device store old new before after
+    pub full : result ≡ Err NoRoom → IsFullLog device store old new before after
     pub cause : HasFault (device.faults before.disk) (device.faults after.disk) result
     pub run : device.came_to before.disk after.disk
 
--- either journal has no room for the record of the first job; nothing changed, and the rule lets the server stop
+-- either device has no room for what the first job commits; nothing changed, and the rule lets the server stop
 pub record IsFullWork {D E : Type 0} (device : Ghosts D) (other : Ghosts E) (old new : ServerView) (before after : Holdings D)
     (state left : Keeping E) : Type 0 where
-  pub count : (before.log.region.count ≡ journal_records) ⊎ (state.region.count ≡ journal_records)
+  pub count : (marked_in before ≡ marks_limit) ⊎ (state.region.count ≡ journal_records)
   pub same : (new ≡ old) × (after ≡ before) × (left ≡ state)
   pub stops : device.observable → other.observable → HoldsAt device before → logs.HoldsAt other state → Stops old (store_of before) state.records

@@ -51,7 +51,7 @@ impl ServerCore {
     ///
     /// # Errors
     /// `Failed` where the state device failed: the server is stopped as before, its records are as they were, and its state store
-    /// is to be opened again. `JournalFull` where the journal of the state device has no room: nothing happened. `NoMemory`: the
+    /// is to be opened again. `NoRoom` where the journal of the state device has no room: nothing happened. `NoMemory`: the
     /// server is stopped as before, and the incarnation on its device may be raised.
     pub fn boot<E: Disk>(
         &mut self,

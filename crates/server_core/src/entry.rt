@@ -8,7 +8,7 @@ ghost use Rattle.server_jobs.specs.Wants.{here_by, own_in};
 ghost use Rattle.server_log.specs.Entered.{IsNext, entry_in, entry_of, next_known};
 ghost use Rattle.server_log.specs.Part.{log_of, sender_of, state_of};
 ghost use Rattle.server_log.specs.Said.{IsBy};
-ghost use Rattle.pair_memory.specs.Crossed.{IsEntered, lacks_room};
+ghost use Rattle.pair_memory.specs.Crossed.{IsEntered};
 ghost use Rattle.pair_memory.specs.PairMemory.{HasTicketsAt};
 ghost use Rattle.pair_memory.specs.declared.error.WorkError.TheVariants as error;
 ghost use Rattle.spec_rules.specs.Crossing.{jobs_by};
@@ -21,7 +21,7 @@ ghost use Rattle.server_core.specs.Work.{IsStoreWork};
 
 use crate::parts::ServerMemory;
 use global_state::GlobalState;
-use pair_memory::{JobContext, PairMemory, WorkError, enter_all, entry_jobs, lacks_room};
+use pair_memory::{JobContext, PairMemory, WorkError, enter_all, entry_jobs};
 use petal_base::{Inc, NoMemory, Sequence};
 use petal_command::ServerNumber;
 use petal_disk::Disk;
@@ -33,24 +33,6 @@ use spec_rules::Job;
 use state_store::StateStore;
 use std::alloc::Global;
 use std::collections::VecDeque;
-
-/// Whether the next entry would have the store wait for nobody any more, and its journal has no room for that.
-fn next_lacks_room<D: Disk>(
-    alloc: Global,
-    log: &LogSide,
-    next: &Option<Next>,
-    store: &Store<D>,
-) -> bool
-    ensures { result ≡ lacks_room log.now.voter.me log.now.voter.inc (option_map entry_in next.now) store.now }
-{
-    match next {
-        Some(next) => {
-            let here = JobContext::new(alloc, log.state(), log.number(), log.inc());
-            lacks_room(&here, &next.entry, store)
-        }
-        None => false,
-    }
-}
 
 /// What an entry that was applied does to the pairs and the store.
 fn enter_by<D: Disk>(
@@ -64,7 +46,6 @@ fn enter_by<D: Disk>(
 ) -> Result<(), WorkError>
     requires tickets { HasTicketsAt side.old store.old }
     requires next { IfSome entered (λ it. next.now ≡ after it.before it.entry) }
-    requires room { lacks_room me inc (option_map entry_of entered) store.old ≡ false }
     ensures { (state : State) → IfSome entered (λ it. it.before ≡ state)
         → IsEntered D.Disk (record { state = state; me = me; inc = inc }) (option_map entry_of entered) side.old side.new store.old store.new result }
 {
@@ -117,28 +98,20 @@ fn jobs_with_room(
 }
 
 /// The next entry, and the jobs that follow it, for which the queue has room now.
-fn next_with_jobs<D: Disk, E: Disk>(
+fn next_with_jobs<E: Disk>(
     alloc: Global,
     log: &LogSide,
     side: &PairMemory,
     queue: &mut VecDeque<Job>,
-    store: &Store<D>,
     state: &StateStore<E>,
-) -> Result<(Option<Next>, Vec<Job>), WorkError>
+) -> Result<(Option<Next>, Vec<Job>), NoMemory>
     ensures same { queue.new.items ≡ queue.old.items }
     ensures room { IfOk result (λ found. deque_len queue.new + length found.1.items + 1 ≤ deque_capacity queue.new) }
     ensures next { IfOk result (λ found. IsNext log.now state.now.records found.0) }
-    ensures fits { IfOk result (λ found. lacks_room log.now.voter.me log.now.voter.inc (option_map entry_in found.0) store.now ≡ false) }
     ensures jobs { (held : stores.Store) → IfOk result (λ found. found.1.items
         ≡ jobs_by (state_of log.now) log.now.voter.me (option_map entry_in found.0) (own_in side.now held)) }
-    ensures full { result ≡ Err error.JournalFull
-        → lacks_room log.now.voter.me log.now.voter.inc (next_known log.now state.now.records) store.now ≡ true }
-    ensures err { IfErr result (λ e. (e ≢ error.Failed) × (e ≢ error.Exhausted)) }
 {
     let next = log.next_entry(alloc, state)?;
-    if next_lacks_room(alloc, log, &next, store) {
-        return Err(WorkError::JournalFull);
-    }
     let jobs = jobs_with_room(alloc, log, side, queue, &next)?;
     Ok((next, jobs))
 }
@@ -154,7 +127,6 @@ fn enter_next<D: Disk, E: Disk>(
 ) -> Result<LogDone, WorkError>
     requires tickets { HasTicketsAt side.old store.old }
     requires next { IsNext log.old state.now.records next }
-    requires room { lacks_room log.old.voter.me log.old.voter.inc (option_map entry_in next) store.old ≡ false }
     ensures voter { log.new.voter ≡ log.old.voter }
     ensures done { IfOk result (λ done. IsBy (sender_of log.old) (log_of log.new state.now.records) done (applies (log_of log.old state.now.records))) }
     ensures entered { result ≢ Err error.NoMemory
@@ -184,7 +156,7 @@ fn apply_next<D: Disk, E: Disk>(
     ensures { (running : Bool) → IsStoreWork D.Disk state.now.records (core_of running log.old side.old queue.old.items)
         (core_of running log.new side.new queue.new.items) store.old store.new result }
 {
-    let (next, jobs) = next_with_jobs(alloc, log, side, queue, store, state)?;
+    let (next, jobs) = next_with_jobs(alloc, log, side, queue, state)?;
     match enter_next(alloc, log, side, store, state, next) {
         Ok(done) => {
             enter(queue, done.apply, done.again);

@@ -22,7 +22,7 @@ pub fn of_state(error: StateError) -> WorkError
 {
     match error {
         StateError::Failed | StateError::Blank | StateError::BadRecord { .. } => WorkError::Failed,
-        StateError::JournalFull => WorkError::JournalFull,
+        StateError::JournalFull => WorkError::NoRoom,
         StateError::NoMemory => WorkError::NoMemory,
         StateError::Exhausted => WorkError::Exhausted,
     }

@@ -35,9 +35,9 @@ impl ServerCore {
     ///
     /// # Errors
     /// `Failed` where one of the devices failed: the entries and the records are as they were, and the server is to be stopped.
-    /// `JournalFull` where the journal of one has no room for the record of the job: nothing happened, and the server is to be
-    /// stopped. `NoMemory`: nothing happened, and the devices show the stores as before. `Exhausted`, where no number is left for
-    /// the job's operation, or no record can name its place or its round: nothing happened.
+    /// `NoRoom` where one has no room for what the job commits: nothing happened, and the server is to be stopped. `NoMemory`: nothing
+    /// happened, and the devices show the stores as before. `Exhausted`, where no number is left for the job's operation, or no record
+    /// can name its place or its round: nothing happened.
     pub fn work<D: Disk, E: Disk>(
         &mut self,
         alloc: Global,

@@ -9,7 +9,7 @@ use Rattle.spec_paxos.specs.Kept.{known_at}
 use Rattle.spec_rules.proofs.Applied.{servers_after}
 use Rattle.spec_rules.specs.Boots.{awake, known_prefix, raised, stays, wakes}
 use Rattle.spec_rules.specs.Entries.{before_known, known_run}
-use Rattle.spec_rules.specs.Jobs.{down_posts, here_of, is_overfull}
+use Rattle.spec_rules.specs.Jobs.{down_posts, here_of, has_full_log}
 use Rattle.spec_rules.specs.Log.{Log, rev_of, state_in}
 use Rattle.spec_rules.specs.Server.{JobContext, Life, PairState, Server, letters_of}
 use Rattle.spec_rules.specs.State.{servers_of}
@@ -143,9 +143,9 @@ module _ (servers n inc : ℕ) (log : Log) (own : PairState) (queue : List Job) 
   raised_left false = refl
 
   boots_left : (end : WorkEnd) → StepsLeft servers n asleep (Boot end)
-  boots_left Done = record { letters = booted_letters (is_overfull (raised asleep)); left = booted_left (is_overfull (raised asleep)) }
+  boots_left Done = record { letters = booted_letters (has_full_log (raised asleep)); left = booted_left (has_full_log (raised asleep)) }
   boots_left (Fault Before) = record { letters = refl; left = refl }
-  boots_left (Fault After) = record { letters = refl; left = raised_left (is_overfull (raised asleep)) }
+  boots_left (Fault After) = record { letters = refl; left = raised_left (has_full_log (raised asleep)) }
 
 boots_at : (servers n : ℕ) (end : WorkEnd) (running : Bool) (inc : ℕ) (log : Log) (own : PairState) (queue : List Job) → not running ≡ true
     → StepsLeft servers n (made running inc log own queue) (Boot end)

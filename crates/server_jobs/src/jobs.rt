@@ -89,8 +89,8 @@ fn stages<D: Disk>(
 /// One job, with at most one commit.
 ///
 /// # Errors
-/// `NoMemory`, and then nothing changed; `Failed` where the device failed, and `JournalFull` only where the store's journal had
-/// all its records: the entries are as they were, and the server is to be stopped.
+/// `NoMemory`, and then nothing changed; `Failed` where the device failed, and `NoRoom` only where marks and rows of the store
+/// were as many as there may be: the entries are as they were, and the server is to be stopped.
 #[tactic(auto, unfolding(spec_rules::specs::Jobs::does))]
 pub fn does<D: Disk>(
     here: &JobContext,

@@ -1,5 +1,6 @@
 pub mod Changes
 pub mod Commits
 pub mod Contents
+pub mod Needed
 pub mod Opening
-pub mod MarkOrder
+pub mod Steps

@@ -3,6 +3,11 @@ use Rattle.std.specs.Prelude.{◌≡◌, ℕ, Bool, List, ⊤}
 use Rattle.data_device.specs.declared.record.StoreRecord.{StoreRecord}
 use Rattle.server_store.specs.declared.opened.Opened.{Opened}
 use Rattle.server_store.specs.declared.opened.Opened.TheVariants.{Store, Blank}
+use Rattle.data_device.specs.Kept.{Kept}
+use Rattle.data_device.specs.declared.opening.Found.{Found}
+use Rattle.server_store.specs.declared.reread.Reread.{Reread}
+use Rattle.server_store.specs.declared.reread.Reread.TheVariants.{Same, Changed}
+use Rattle.server_store.specs.declared.reread.Reread.TheVariants as reread
 use Rattle.server_store.specs.Holdings.{Holdings}
 use Rattle.server_store.specs.Shown.{Picture, picture_of, Holds}
 
@@ -29,3 +34,13 @@ pub record Reopened (slots : ℕ) (fresh : Bool) (records : List StoreRecord) (p
   pub records_are : store.log.records ≡ records
   pub shown : picture_of store ≡ picture
   pub holds : Holds store seen may_leave
+
+-- what of a store was found on a device
+abbrev pub kept_found : Found → Kept
+kept_found found = record { entries = found.ledger.entries; marks = found.marks.marks; rows = found.rows.rows; fresh = found.fresh }
+
+-- the device stands for a store
+abbrev pub IsReread : Reread → Type 0
+IsReread Same = ⊤
+IsReread Changed = ⊤
+IsReread reread.Blank = ⊥

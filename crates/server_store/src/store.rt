@@ -1,59 +1,66 @@
 //! The store of one server, over its device.
 
-ghost use Rattle.std.specs.Prelude.{◌==◌, ◌≡◌, ℕ, ◌⊎◌, ◌≤◌, ◌<◌, ◌+◌, ◌^◌, ◌++◌, ◌∷◌, ◌↔◌, [], Bool, List, length, slice_get, take, Contains, Err, IfOk, OnOk};
-ghost use Rattle.std.specs.Prelude.{IfErr, OnErr, IsErrOf, IfNone, true, false, not, is_some, Some, None};
+ghost use Rattle.std.specs.Prelude.{◌^◌, ◌≡◌, ℕ, ◌≤◌, ◌<◌, ◌+◌, ◌++◌, ◌∷◌, ◌↔◌, [], Bool, List, length, slice_get, take, vec_len, Contains, Err, IfOk, OnOk};
+ghost use Rattle.std.specs.Prelude.{IfErr, OnErr, IfNone, true, false, not, Some, None, if◌then◌else◌};
 ghost use Rattle.std.specs.List.Sorted.{IsStrictlySortedBy};
-ghost use Rattle.busy_marks.specs.Marks.{mark_cmp, has_mark, with_mark, without_mark, next_marked, next_marked_map};
+ghost use Rattle.block_journal.specs.declared.half.TheConstants.{TURN_BYTES};
+ghost use Rattle.busy_marks.specs.Marks.{mark_cmp, has_mark, next_marked, next_marked_map};
+ghost use Rattle.client_rows.specs.Rows.{next_rows_of, row_of};
 ghost use Rattle.petal_base.specs.Block.{zero_block, block_bytes};
+ghost use Rattle.petal_base.specs.Limits.{max_slots};
 ghost use Rattle.petal_disk.specs.Disk.{LeavesOnly, Within};
 ghost use Rattle.device_faults.specs.Faults.{HasCause};
 ghost use Rattle.petal_disk.specs.Keeping.{KeepsDevice};
 ghost use Rattle.petal_disk.specs.Plans.{beneath, plan_state};
-ghost use Rattle.physical_map.specs.Entries.{key_of, slot_of, without_key, chain_of, map_entries, top_of, version_of, next_block_of, lesser};
-ghost use Rattle.physical_map.specs.Keys.{placed, newest, IsInOrder};
-ghost use Rattle.data_device.specs.Device.{header, bodies_of, AreSpelled, StandsFor, Logs, header_bytes, JournalCounts};
-ghost use Rattle.data_device.specs.Errors.{IsFormatError, IsReserveError, IsCommitError, IsMarkError};
-ghost use Rattle.server_store.specs.Committing.{IsCommitOf};
-ghost use Rattle.server_store.specs.Holdings.{key_held, listed, free_slots, without_held, content_of, next_map_in};
+ghost use Rattle.physical_map.specs.Entries.{key_of, chain_of, map_entries, top_of, version_of, next_block_of, lesser};
+ghost use Rattle.physical_map.specs.Keys.{newest, IsInOrder};
+ghost use Rattle.data_device.specs.Device.{header, bodies_of, AreSpelled, StandsFor, header_bytes, IsJournalOf};
+ghost use Rattle.data_device.specs.Errors.{IsFormatError, IsReserveError};
+ghost use Rattle.server_store.specs.Holdings.{key_held, kept_in, listed, free_slots, content_of, next_map_in};
 ghost use Rattle.data_device.specs.Found.{IsOpenError, IsGoodError};
 ghost use Rattle.data_device.specs.Kept.{AllFit, formatted, kept_of};
-ghost use Rattle.server_store.specs.Opening.{IfStore, IfBlank, IsStore, Reopened};
+ghost use Rattle.server_store.specs.Opening.{IfStore, IfBlank, IsStore, IsReread, Reopened, kept_found};
 ghost use Rattle.data_device.specs.Reading.{IsBadOn, IsBlank, LeftByFormat};
 ghost use Rattle.server_store.specs.Shown.{Picture, picture_of, picture_in, Shows, Holds};
 ghost use Rattle.data_device.specs.Slots.{slot_start};
 ghost use Rattle.data_device.specs.Tickets.{without};
 ghost use Rattle.data_device.specs.declared.record.StoreRecord.{StoreRecord};
-ghost use Rattle.data_device.specs.declared.record.StoreRecord.TheVariants as records;
-ghost use Rattle.petal_base.specs.Limits.{journal_records};
+ghost use Rattle.server_store.specs.declared.reread.Reread.TheVariants as reread;
 
-use crate::Opened;
-use crate::commit::{commit, commit_put};
+use crate::equal::{are_same_entries, are_same_marks};
+use crate::rows::are_same_rows;
+use crate::{Opened, Reread};
+use block_journal::TURN_BYTES;
 use busy_marks::{MarkKind, Marks};
-use data_device::record::StoreRecord;
-use data_device::{Header, Ledger, RecordLog, StoreError, Ticket, read_device, write_format};
-use petal_base::{Block, BlockNo, Cell, Epoch, Key, MapId, NoMemory, Sequence, Version};
+use client_rows::Rows;
+use data_device::{
+    Found, Header, Ledger, RecordLog, StoreError, Ticket, read_device, write_format,
+};
+use petal_base::{BlockNo, Cell, ClientId, Epoch, MapId, NoMemory, Seq, Sequence, Version};
 use petal_disk::{Disk, Failed, Plan, Planned};
 use physical_map::Entry;
 use std::alloc::Global;
 use std::marker::Model;
 
-/// The entries of one server with their contents, and its marks. Contracts see the entries in the order of their keys, each
-/// with its content, the slots of the tickets out, the marks, the number of slots, whether the store is still to be filled
-/// again, and the device.
+/// The entries of one server with their contents, its marks, and the rows of the writes that were put. Contracts see the entries in
+/// the order of their keys, each with its content, the slots of the tickets out, the marks, the rows, the number of slots, whether the
+/// store is still to be filled again, and the device.
 #[derive(Drop)]
 pub struct Store<D: Disk> {
-    ledger: Ledger,
-    marks: Marks,
-    fresh: bool,
-    log: RecordLog,
-    disk: D,
+    pub(crate) ledger: Ledger,
+    pub(crate) marks: Marks,
+    // room for the row of each ticket out
+    pub(crate) rows: Rows,
+    pub(crate) fresh: bool,
+    pub(crate) log: RecordLog,
+    // what a turn of the journal borrows
+    pub(crate) buffer: Vec<u8>,
+    pub(crate) disk: D,
 }
 
 impl<D: Disk> Model for Store<D> {
-    ghost use Rattle.std.specs.Prelude.{map, ◌≤◌, ◌≡◌};
-    ghost use Rattle.server_store.specs.Holdings.{Holdings, held_in};
-    ghost use Rattle.data_device.specs.Kept.{kept_of};
-    ghost use Rattle.data_device.specs.Slots.{slot_start};
+    ghost use Rattle.std.specs.Prelude.{map};
+    ghost use Rattle.server_store.specs.Holdings.{Holdings, IsKeptBy, held_in};
 
     ghost Value = { Holdings D };
 
@@ -61,14 +68,14 @@ impl<D: Disk> Model for Store<D> {
       entries = map (held_in (D.seen s.disk)) s.ledger.entries;
       tickets = s.ledger.tickets;
       marks = s.marks.marks;
+      rows = s.rows.rows;
       slots = s.ledger.slots;
       fresh = s.fresh;
       log = s.log;
       disk = s.disk;
     } };
 
-    ghost invariant = { λ s. (slot_start s.ledger.slots ≤ D.size s.disk)
-        × (kept_of s.log.fresh s.log.records ≡ record { entries = s.ledger.entries; marks = s.marks.marks; fresh = s.fresh }) };
+    ghost invariant = { λ s. IsKeptBy s.ledger s.marks s.rows s.fresh s.log s.buffer (D.size s.disk) };
 }
 
 impl<D: Disk> Store<D> {
@@ -84,14 +91,16 @@ impl<D: Disk> Store<D> {
         slots: u32,
         fresh: bool,
     ) -> Result<Store<D>, (D, StoreError)>
-        requires { slot_start slots ≤ D.size disk }
+        requires fits { slot_start slots ≤ D.size disk }
+        requires few { slots ≤ max_slots }
         ensures ok { IfOk result (λ store. store ≡ record {
           entries = [];
           tickets = [];
           marks = [];
+          rows = [];
           slots = slots;
           fresh = fresh;
-          log = record { fresh = fresh; records = []; region = store.log.region };
+          log = record { fresh = fresh; records = []; halves = store.log.halves };
           disk = store.disk;
         }) }
         ensures holds { IfOk result (λ store. D.observable → Holds store (D.seen store.disk) (D.may_leave store.disk)) }
@@ -110,40 +119,46 @@ impl<D: Disk> Store<D> {
         ensures err_run { IfErr result (λ e. D.came_to disk e.0) }
     {
         let mut disk = disk;
+        let Ok(buffer) = new_buffer(alloc) else {
+            return Err((disk, StoreError::NoMemory));
+        };
         match write_format(alloc, &mut disk, Header { slots, fresh }) {
             Ok((ledger, log)) => Ok(Store {
                 ledger,
                 marks: Marks::new(alloc),
+                rows: Rows::new(alloc),
                 fresh,
                 log,
+                buffer,
                 disk,
             }),
             Err(error) => Err((disk, error)),
         }
     }
 
-    /// The store that a device stands for, or the device where it is blank: where it has no header that is spelled, or its
-    /// journal or slots do not fit it.
+    /// The store that a device stands for, or the device where it is blank: where it has no header that is spelled, its journal or
+    /// slots do not fit it, or neither half of the journal counts.
     ///
     /// # Errors
-    /// `BadRecord` where the record of this index counts and has no spelling, or puts into a slot that is in use or not there;
-    /// `Failed`, where the device failed, and `NoMemory`. The device is handed back, and but for a sync it is as it was.
+    /// `BadRecord` where the record of this index counts and has no spelling, puts into a slot that is in use or not there, or gives
+    /// more marks and rows than there may be; `Failed`, where the device failed, and `NoMemory`. The device is handed back, and but
+    /// for a sync it is as it was.
     pub fn open(alloc: Global, disk: D) -> Result<Opened<D>, (D, StoreError)>
         ensures headed { IfOk result (λ o. IfStore o (λ store. D.observable → take header_bytes (D.seen disk) ≡ header store.slots store.log.fresh)) }
-        ensures counts { IfOk result (λ o. IfStore o (λ store. D.observable → JournalCounts (D.seen disk) (bodies_of store.log.records))) }
+        ensures list { IfOk result (λ o. IfStore o (λ store. D.observable → IsJournalOf (D.seen disk) (bodies_of store.log.records))) }
         ensures spelled { IfOk result
             (λ o. IfStore o (λ store. AreSpelled store.log.records × AllFit store.slots (formatted store.log.fresh) store.log.records)) }
         ensures shown { IfOk result (λ o. IfStore o (λ store. picture_of store ≡ picture_in (D.seen disk) (kept_of store.log.fresh store.log.records))) }
         ensures no_tickets { IfOk result (λ o. IfStore o (λ store. store.tickets ≡ [])) }
         ensures same { (slots : ℕ) (fresh : Bool) (recorded : List StoreRecord) (picture : Picture)
-            → IfOk result (λ o. D.observable → slots < 2 ^ 32 → slot_start slots ≤ D.size disk → Shows (D.seen disk) slots fresh recorded picture
+            → IfOk result (λ o. D.observable → slot_start slots ≤ D.size disk → Shows (D.seen disk) slots fresh recorded picture
             → IsStore o (λ store. Reopened slots fresh recorded picture store (D.seen store.disk) (D.may_leave store.disk))) }
         ensures blank { IfOk result (λ o. IfBlank o (λ _. D.observable → IsBlank (D.seen disk) (D.size disk))) }
-        ensures bad { (index slots : ℕ) (fresh : Bool) → IfErr result (λ e. e.1 ≡ StoreError.BadRecord index → D.observable → slots < 2 ^ 32
+        ensures bad { (index slots : ℕ) (fresh : Bool) → IfErr result (λ e. e.1 ≡ StoreError.BadRecord index → D.observable → slots ≤ max_slots
             → take header_bytes (D.seen disk) ≡ header slots fresh → IsBadOn (D.seen disk) slots fresh index) }
         ensures bad_headed { (index : ℕ) → IfErr result (λ e. e.1 ≡ StoreError.BadRecord index → D.observable → ¬ IsBlank (D.seen disk) (D.size disk)) }
         ensures good { (slots : ℕ) (fresh : Bool) (recorded : List StoreRecord)
-            → IfErr result (λ e. D.observable → slots < 2 ^ 32 → StandsFor (D.seen disk) slots fresh recorded → IsGoodError e.1) }
+            → IfErr result (λ e. D.observable → StandsFor (D.seen disk) slots fresh recorded → IsGoodError e.1) }
         ensures errors { IfErr result (λ e. IsOpenError e.1) }
         ensures failed { IfErr result (λ e. e.1 ≡ StoreError.Failed → D.faults disk < D.faults e.0) }
         ensures later { IfOk result (λ o. IfStore o (λ store. D.faults disk ≤ D.faults store.disk)) }
@@ -155,12 +170,17 @@ impl<D: Disk> Store<D> {
         ensures err_run { IfErr result (λ e. D.came_to disk e.0) }
     {
         let mut disk = disk;
+        let Ok(buffer) = new_buffer(alloc) else {
+            return Err((disk, StoreError::NoMemory));
+        };
         match read_device(alloc, &mut disk) {
             Ok(Some(found)) => Ok(Opened::Store(Store {
                 ledger: found.ledger,
                 marks: found.marks,
+                rows: found.rows,
                 fresh: found.fresh,
                 log: found.log,
+                buffer,
                 disk,
             })),
             Ok(None) => Ok(Opened::Blank(disk)),
@@ -168,17 +188,20 @@ impl<D: Disk> Store<D> {
         }
     }
 
-    /// Loses what the device does not keep, as in a crash, and reads again what the device then stands for. The answer is whether
-    /// that is a store; where it is not, the device is blank, and what is held is not to be used.
+    /// Loses what the device does not keep, as in a crash, and reads again what the device then stands for. The answer is whether that
+    /// is a store, and whether it keeps what was held in memory; where it is none, the device is blank, and what is held is not to be
+    /// used.
     ///
     /// # Errors
-    /// `BadRecord`, `Failed` and `NoMemory`, as of `open`: what is held is not to be used.
-    pub fn reopen(&mut self, alloc: Global) -> Result<bool, StoreError>
+    /// `BadRecord`, `Failed` and `NoMemory`, as of `open`. What is held in memory stays.
+    pub fn reopen(&mut self, alloc: Global) -> Result<Reread, StoreError>
         ensures left { D.observable → D.may_leave self.old.disk (D.seen self.new.disk) }
         ensures same { (slots : ℕ) (fresh : Bool) (recorded : List StoreRecord) (picture : Picture)
-            → IfOk result (λ found. found ≡ true → D.observable → slots < 2 ^ 32 → Shows (D.seen self.new.disk) slots fresh recorded picture
+            → IfOk result (λ found. IsReread found → D.observable → Shows (D.seen self.new.disk) slots fresh recorded picture
             → Reopened slots fresh recorded picture self.new (D.seen self.new.disk) (D.may_leave self.new.disk)) }
-        ensures no_tickets { IfOk result (λ found. found ≡ true → self.new.tickets ≡ []) }
+        ensures no_tickets { IfOk result (λ found. IsReread found → self.new.tickets ≡ []) }
+        ensures observed { IfOk result (λ found. IsReread found → (found ≡ reread.Same) ↔ (kept_in self.new ≡ kept_in self.old)) }
+        ensures still { OnErr result (kept_in self.new ≡ kept_in self.old) }
         ensures errors { IfErr result IsOpenError }
         ensures failed { IfErr result (λ e. e ≡ StoreError.Failed → D.faults self.old.disk < D.faults self.new.disk) }
         ensures later { D.faults self.old.disk ≤ D.faults self.new.disk }
@@ -187,13 +210,37 @@ impl<D: Disk> Store<D> {
     {
         self.disk.crash();
         let Some(found) = read_device(alloc, &mut self.disk)? else {
-            return Ok(false);
+            return Ok(Reread::Blank);
         };
+        let same = self.keeps(&found);
         self.ledger = found.ledger;
         self.marks = found.marks;
+        self.rows = found.rows;
         self.fresh = found.fresh;
         self.log = found.log;
-        Ok(true)
+        Ok(as_reread(same))
+    }
+
+    // Whether what was found is what is held in memory.
+    fn keeps(&self, found: &Found) -> bool
+        ensures { (result ≡ true) ↔ (kept_in self.now ≡ kept_found found.now) }
+    {
+        self.keeps_tables(found) && self.keeps_rest(found)
+    }
+
+    // Whether entries and marks are those that were found.
+    fn keeps_tables(&self, found: &Found) -> bool
+        ensures { (result ≡ true) ↔ ((listed self.now.entries ≡ found.now.ledger.entries) × (self.now.marks ≡ found.now.marks.marks)) }
+    {
+        are_same_entries(self.entries(), found.ledger.map().entries())
+            && are_same_marks(self.marks.marks(), found.marks.marks())
+    }
+
+    // Whether rows are those that were found, and whether it is as `fresh`.
+    fn keeps_rest(&self, found: &Found) -> bool
+        ensures { (result ≡ true) ↔ ((self.now.rows ≡ found.now.rows.rows) × (self.now.fresh ≡ found.now.fresh)) }
+    {
+        are_same_rows(self.rows.rows(), found.rows.rows()) && self.fresh == found.fresh
     }
 
     /// Sets a free slot aside, and all the memory that a put with it needs.
@@ -208,64 +255,13 @@ impl<D: Disk> Store<D> {
         ensures errors { IfErr result IsReserveError }
         ensures no_space { (result ≡ Err StoreError.NoSpace) ↔ (free_slots self.old ≡ 0) }
     {
+        if self.ledger.free() == 0 {
+            return Err(StoreError::NoSpace);
+        }
+        self.rows.reserve(self.ledger.out() + 1)?;
         match self.ledger.reserve()? {
             Some(ticket) => Ok(ticket),
             None => Err(StoreError::NoSpace),
-        }
-    }
-
-    /// Puts a block at a key. It writes the ticket's slot, and only then the key's entry takes that slot and the one that it
-    /// had is free. The ticket is spent. It takes no memory.
-    ///
-    /// # Errors
-    /// `JournalFull` where the journal has all its records, before any call of the device; `Failed` where the device failed.
-    /// The entries stay as they were.
-    pub fn put(
-        &mut self,
-        ticket: Ticket,
-        key: Key,
-        version: Version,
-        block: &Block,
-    ) -> Result<(), StoreError>
-        requires { Contains self.old.tickets ticket }
-
-        ensures put { OnOk result (listed self.new.entries ≡ placed key_of (listed self.old.entries) (record { key = key; slot = ticket; version = version })) }
-        ensures content { OnOk result (D.observable → self.new.entries ≡ placed key_held self.old.entries
-            (record { entry = record { key = key; slot = ticket; version = version }; content = block.now })) }
-
-        ensures listed { OnErr result (listed self.new.entries ≡ listed self.old.entries) }
-        ensures kept { OnErr result (D.observable → self.new.entries ≡ self.old.entries) }
-        ensures errors { IfErr result IsCommitError }
-        ensures full { IsErrOf result StoreError.JournalFull ↔ (self.old.log.region.count ≡ journal_records) }
-        ensures full_rest { IsErrOf result StoreError.JournalFull → self.new ≡ record self.old { tickets = without self.old.tickets ticket } }
-        ensures committed { IsCommitOf D.Disk self.old self.new result true (records.Put key version ticket) block.now }
-        ensures rest { self.new
-            ≡ record self.old { entries = self.new.entries; tickets = without self.old.tickets ticket; log = self.new.log; disk = self.new.disk } }
-    {
-        if self.log.is_full() {
-            self.ledger.give_back(ticket);
-            return Err(StoreError::JournalFull);
-        }
-        let entry = Entry {
-            key,
-            slot: ticket.slot(),
-            version,
-        };
-        match commit_put(
-            &mut self.disk,
-            &mut self.log,
-            self.ledger.slots(),
-            &entry,
-            block,
-        ) {
-            Ok(()) => {
-                self.ledger.settle(ticket, key, version);
-                Ok(())
-            }
-            Err(error) => {
-                self.ledger.give_back(ticket);
-                Err(error)
-            }
         }
     }
 
@@ -275,124 +271,6 @@ impl<D: Disk> Store<D> {
         ensures { self.new ≡ record self.old { tickets = without self.old.tickets ticket } }
     {
         self.ledger.give_back(ticket);
-    }
-
-    /// Sets a mark. Where it is set nothing changes.
-    ///
-    /// # Errors
-    /// `NoMemory`, before any call of the device; else as of `put`. The marks stay as they were.
-    pub fn mark(&mut self, kind: MarkKind, cell: Cell) -> Result<(), StoreError>
-        ensures ok { OnOk result (self.new.marks ≡ with_mark self.old.marks (record { kind = kind; cell = cell })) }
-        ensures err { OnErr result (self.new.marks ≡ self.old.marks) }
-        ensures listed { listed self.new.entries ≡ listed self.old.entries }
-        ensures kept { D.observable → self.new.entries ≡ self.old.entries }
-        ensures errors { IfErr result IsMarkError }
-        ensures full { IsErrOf result StoreError.JournalFull
-            → (self.old.log.region.count ≡ journal_records) × (not (has_mark (record { kind = kind; cell = cell }) self.old.marks) ≡ true)
-            × (self.new ≡ self.old) }
-        ensures full_comes { self.old.log.region.count ≡ journal_records → not (has_mark (record { kind = kind; cell = cell }) self.old.marks) ≡ true
-            → IsErrOf result StoreError.JournalFull ⊎ IsErrOf result StoreError.NoMemory }
-        ensures memory { IsErrOf result StoreError.NoMemory → self.new ≡ self.old }
-        ensures idle { has_mark (record { kind = kind; cell = cell }) self.old.marks ≡ true → self.new ≡ self.old }
-        ensures committed { IsCommitOf D.Disk self.old self.new result (not (has_mark (record { kind = kind; cell = cell }) self.old.marks))
-            (records.Mark kind cell) [] }
-        ensures rest { self.new ≡ record self.old { entries = self.new.entries; marks = self.new.marks; log = self.new.log; disk = self.new.disk } }
-    {
-        if self.marks.has(kind, cell) {
-            return Ok(());
-        }
-        self.marks.set(kind, cell)?;
-        let change = StoreRecord::Mark { kind, cell };
-        match commit(&mut self.disk, &mut self.log, &change) {
-            Ok(()) => Ok(()),
-            Err(error) => {
-                self.marks.clear(kind, cell);
-                Err(error)
-            }
-        }
-    }
-
-    /// Takes a mark away. Where it is not set nothing changes. It takes no memory.
-    ///
-    /// # Errors
-    /// As of `put`. The marks stay as they were.
-    pub fn unmark(&mut self, kind: MarkKind, cell: Cell) -> Result<(), StoreError>
-        ensures ok { OnOk result (self.new.marks ≡ without_mark self.old.marks (record { kind = kind; cell = cell })) }
-        ensures err { OnErr result (self.new.marks ≡ self.old.marks) }
-        ensures listed { listed self.new.entries ≡ listed self.old.entries }
-        ensures kept { D.observable → self.new.entries ≡ self.old.entries }
-        ensures errors { IfErr result IsCommitError }
-        ensures full { IsErrOf result StoreError.JournalFull ↔ (self.old.log.region.count ≡ journal_records)
-            × (has_mark (record { kind = kind; cell = cell }) self.old.marks ≡ true) }
-        ensures full_rest { IsErrOf result StoreError.JournalFull → self.new ≡ self.old }
-        ensures idle { has_mark (record { kind = kind; cell = cell }) self.old.marks ≡ false → self.new ≡ self.old }
-        ensures committed { IsCommitOf D.Disk self.old self.new result (has_mark (record { kind = kind; cell = cell }) self.old.marks)
-            (records.Unmark kind cell) [] }
-        ensures rest { self.new ≡ record self.old { entries = self.new.entries; marks = self.new.marks; log = self.new.log; disk = self.new.disk } }
-    {
-        if !self.marks.has(kind, cell) {
-            return Ok(());
-        }
-        let change = StoreRecord::Unmark { kind, cell };
-        commit(&mut self.disk, &mut self.log, &change)?;
-        self.marks.clear(kind, cell);
-        Ok(())
-    }
-
-    /// Drops the entry that has the key, and its slot is free. Where there is none nothing changes. It takes no memory.
-    ///
-    /// # Errors
-    /// As of `put`. The entries stay as they were.
-    pub fn drop_key(&mut self, key: Key) -> Result<(), StoreError>
-        ensures ok { OnOk result (listed self.new.entries ≡ without_key (listed self.old.entries) key) }
-        ensures content { OnOk result (D.observable → self.new.entries ≡ without_held self.old.entries key) }
-        ensures listed { OnErr result (listed self.new.entries ≡ listed self.old.entries) }
-        ensures kept { OnErr result (D.observable → self.new.entries ≡ self.old.entries) }
-        ensures errors { IfErr result IsCommitError }
-        ensures full { IsErrOf result StoreError.JournalFull
-            ↔ (self.old.log.region.count ≡ journal_records) × (is_some (slot_of (listed self.old.entries) key) ≡ true) }
-        ensures full_rest { IsErrOf result StoreError.JournalFull → self.new ≡ self.old }
-        ensures committed { IsCommitOf D.Disk self.old self.new result (is_some (slot_of (listed self.old.entries) key)) (records.Drop key) [] }
-        ensures rest { self.new ≡ record self.old { entries = self.new.entries; log = self.new.log; disk = self.new.disk } }
-    {
-        if !self.has_key(key) {
-            return Ok(());
-        }
-        let change = StoreRecord::Drop { key };
-        commit(&mut self.disk, &mut self.log, &change)?;
-        self.ledger.drop_key(key);
-        Ok(())
-    }
-
-    /// Whether there is an entry of this key.
-    fn has_key(&self, key: Key) -> bool
-        ensures { result ≡ is_some (slot_of (listed self.now.entries) key) }
-    {
-        self.ledger.map().slot(key).is_some()
-    }
-
-    /// The store has been filled again. Where it is not `fresh` nothing changes. It takes no memory.
-    ///
-    /// # Errors
-    /// As of `put`. It is as `fresh` as it was.
-    pub fn settle_fresh(&mut self) -> Result<(), StoreError>
-        ensures ok { OnOk result (self.new.fresh ≡ false) }
-        ensures err { OnErr result (self.new.fresh ≡ self.old.fresh) }
-        ensures listed { listed self.new.entries ≡ listed self.old.entries }
-        ensures kept { D.observable → self.new.entries ≡ self.old.entries }
-        ensures errors { IfErr result IsCommitError }
-        ensures full { IsErrOf result StoreError.JournalFull ↔ (self.old.log.region.count ≡ journal_records) × (self.old.fresh ≡ true) }
-        ensures full_rest { IsErrOf result StoreError.JournalFull → self.new ≡ self.old }
-        ensures idle { self.old.fresh ≡ false → self.new ≡ self.old }
-        ensures committed { IsCommitOf D.Disk self.old self.new result self.old.fresh records.Settled [] }
-        ensures rest { self.new ≡ record self.old { entries = self.new.entries; fresh = self.new.fresh; log = self.new.log; disk = self.new.disk } }
-    {
-        if !self.fresh {
-            return Ok(());
-        }
-        commit(&mut self.disk, &mut self.log, &StoreRecord::Settled)?;
-        self.fresh = false;
-        Ok(())
     }
 
     /// The entry of the greatest epoch not above, and its content: zeros where there is none.
@@ -530,23 +408,24 @@ impl<D: Disk> Store<D> {
 
     /// How many slots there are.
     pub fn slots(&self) -> u32
-        ensures { result ≡ self.now.slots }
+        ensures value { result ≡ self.now.slots }
+        ensures few { result ≤ max_slots }
     {
         self.ledger.count()
     }
 
-    /// How many records the journal has.
-    pub fn records(&self) -> u32
-        ensures { result ≡ self.now.log.region.count }
+    /// The greatest number that a client put on a link; None exactly where it put none.
+    pub fn row(&self, map: MapId, link: u8, client: ClientId) -> Option<Seq>
+        ensures { result ≡ row_of self.now.rows map link client }
     {
-        self.log.count()
+        self.rows.get(map, link, client)
     }
 
-    /// Whether the journal has all its records.
-    pub fn is_full(&self) -> bool
-        ensures { result ≡ (self.now.log.region.count == journal_records) }
+    /// The least map and link above `after` with a row.
+    pub fn next_rows(&self, after: Option<(MapId, u8)>) -> Option<(MapId, u8)>
+        ensures { result ≡ next_rows_of after self.now.rows }
     {
-        self.log.is_full()
+        self.rows.next(after)
     }
 
     /// Whether it was formatted on a device that was found blank, and has not been filled since.
@@ -602,9 +481,23 @@ fn lesser_of(a: Option<u32>, b: Option<u32>) -> Option<u32>
     }
 }
 
+// A store that is the one in memory, or another one.
+fn as_reread(same: bool) -> Reread
+    ensures { (result ≡ reread.Same) ↔ (same ≡ true) }
+{
+    if same { Reread::Same } else { Reread::Changed }
+}
+
 fn write_zeros(into: &mut [u8])
     requires { length into.old ≡ block_bytes }
     ensures { into.new ≡ zero_block }
 {
     into.fill(0);
+}
+
+// The bytes that a turn of the journal borrows.
+fn new_buffer(alloc: Global) -> Result<Vec<u8>, NoMemory>
+    ensures { IfOk result (λ buffer. vec_len buffer ≡ TURN_BYTES) }
+{
+    Ok(vec![in alloc; 0; TURN_BYTES]?)
 }

@@ -1,6 +1,7 @@
 -- Examples of runs.
 use Rattle.std.specs.Prelude.{ℕ, ◌+◌, List, [], ◌∷◌, ◌++◌, true, if◌then◌else◌, ◌==◌, Option, None}
 use Rattle.busy_marks.specs.declared.marks.Mark.{Mark}
+use Rattle.client_rows.specs.declared.row.Row.{Row}
 use Rattle.petal_base.specs.declared.cell.Cell.{Cell}
 use Rattle.petal_command.specs.declared.command.Command.{Command}
 use Rattle.petal_command.specs.declared.command.Command.TheVariants.{MakeDisk}
@@ -64,6 +65,10 @@ cell_at block = record { map = 0; block = block }
 abbrev pub marks_at : World → (server : ℕ) → List Mark
 marks_at w server = (w.servers server).own.store.marks
 
+-- the rows that a server's device has
+abbrev pub rows_at : World → (server : ℕ) → List Row
+rows_at w server = (w.servers server).own.store.rows
+
 -- the chain of a block of the first disk at a server
 abbrev pub chain_at : World → (server block : ℕ) → List (ℕ × Stored)
 chain_at w server block = chain_in (w.servers server).own.store.chains (cell_at block)
@@ -112,14 +117,24 @@ make_moves = Calls 0 1 ∷ passes 0 0 ++ ballot_moves 1 ++ client_ticks 0 ∷ pa
 
 -- ### A write and a read back
 
--- the write goes by its lead, server 1, and its second server, 0, to its answer
-abbrev pub write_moves : List Move
-write_moves =
-    Calls 0 2 ∷ passes 15 1 ++ passes 16 0 ++ passes 17 1 ++ Works 1 ∷ Works 1 ∷ passes 18 0 ++ passes 19 1 ++ Hands 20 ∷ []
+-- the write of this line, of which letter k is the first, goes by its lead, server 1, and its second server, 0, to its answer
+abbrev pub moves_of_write : (line k : ℕ) → List Move
+moves_of_write line k =
+    Calls 0 line ∷ passes k 1 ++ passes (k + 1) 0 ++ passes (k + 2) 1 ++ Works 1 ∷ Works 1 ∷ passes (k + 3) 0 ++ passes (k + 4) 1 ++ Hands (k + 5) ∷ []
 
--- at a tick the lead finds the mark idle, and takes it away
+abbrev pub write_moves : List Move
+write_moves = moves_of_write 2 15
+
+-- at a tick the lead finds what is marked idle, and one job takes the marks away
 abbrev pub tidy_moves : List Move
 tidy_moves = server_ticks 1 ∷ Works 1 ∷ []
+
+-- as above, but for a second block that is written in place of the read
+abbrev pub two_blocks : Setting
+two_blocks = run_of 2 4 (makes 1 (0 ∷ 1 ∷ []) ∷ writes 2 0 5 7 ∷ writes 3 0 7 7 ∷ [])
+
+abbrev pub two_writes_moves : List Move
+two_writes_moves = make_moves ++ write_moves ++ moves_of_write 3 21
 
 -- the write up to where its lead has put, and its second server was not told yet
 abbrev pub put_moves : List Move

@@ -17,5 +17,6 @@ pub use record::{History, Record};
 pub use witness::{
     a_choice_makes_the_disk, a_disk_is_made, a_disk_is_read_early, a_full_write_is_remembered,
     a_letter_comes_twice_and_in_reverse, a_name_is_taken, a_name_is_unknown, a_write_finds_no_slot,
-    a_write_is_read_back, a_write_marks_its_block, two_servers_propose,
+    a_write_is_read_back, a_write_leaves_its_number, a_write_marks_its_block,
+    two_old_marks_go_together, two_servers_propose,
 };

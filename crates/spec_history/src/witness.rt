@@ -10,8 +10,9 @@ ghost use Rattle.spec_rules.specs.World.{chosen_log, server_state};
 ghost use Rattle.spec_history.specs.Contents.{content_at};
 ghost use Rattle.spec_history.specs.Examples.{after_clash_moves, again_moves, cell_at, chain_at, clash_moves, crowd_after, crowd_disk, crowded};
 ghost use Rattle.spec_history.specs.Examples.{declined_moves, early, early_moves, fill_moves, forgetful, freed_moves, late_moves, make_moves, marks_at};
-ghost use Rattle.spec_history.specs.Examples.{mindful, one_entry, pair_disk, put_moves, read_moves, refused_moves, rival_disk, rivals, sevens, stray_moves};
-ghost use Rattle.spec_history.specs.Examples.{strays, events_of_moves, tidy_moves, twin_moves, twins, vol, world_of, write_moves};
+ghost use Rattle.spec_history.specs.Examples.{mindful, one_entry, pair_disk, put_moves, read_moves, refused_moves, rival_disk, rivals, rows_at, sevens};
+ghost use Rattle.spec_history.specs.Examples.{stray_moves, strays, events_of_moves, tidy_moves, twin_moves, twins, two_blocks, two_writes_moves, vol};
+ghost use Rattle.spec_history.specs.Examples.{world_of, write_moves};
 
 /// A client's disk is chosen by two servers and applied by both, and its client hears of it.
 pub fn a_disk_is_made()
@@ -32,14 +33,26 @@ pub fn a_write_is_read_back()
 {}
 
 /// While the write's lead has put and its second server was not told yet, the block is marked busy at the lead. After the
-/// write it still is, with two records on the lead's device, the mark and the put. At a tick of the lead the mark goes.
+/// write it still is. At a tick of the lead the mark goes.
 pub fn a_write_marks_its_block()
     ensures primary { chain_at (world_of sevens (make_moves ++ put_moves)) 1 5 ≡ one_entry 1 (fill_block 7) }
     ensures secondary { chain_at (world_of sevens (make_moves ++ put_moves)) 0 5 ≡ [] }
     ensures marked { marks_at (world_of sevens (make_moves ++ put_moves)) 1 ≡ record { kind = Busy; cell = cell_at 5 } ∷ [] }
     ensures still_marked { marks_at (world_of sevens (make_moves ++ write_moves)) 1 ≡ record { kind = Busy; cell = cell_at 5 } ∷ [] }
-    ensures records { ((world_of sevens (make_moves ++ write_moves)).servers 1).own.store.records ≡ 2 }
     ensures unmarked { marks_at (world_of sevens (make_moves ++ write_moves ++ tidy_moves)) 1 ≡ [] }
+{}
+
+/// Two blocks that were written one after the other are marked busy at their lead. At a tick of the lead both marks go by one job.
+pub fn two_old_marks_go_together()
+    ensures marked { marks_at (world_of two_blocks two_writes_moves) 1
+        ≡ record { kind = Busy; cell = cell_at 5 } ∷ record { kind = Busy; cell = cell_at 7 } ∷ [] }
+    ensures unmarked { marks_at (world_of two_blocks (two_writes_moves ++ tidy_moves)) 1 ≡ [] }
+{}
+
+/// After the write both servers have its number, in the row of its map, link and client.
+pub fn a_write_leaves_its_number()
+    ensures primary { rows_at (world_of sevens (make_moves ++ write_moves)) 1 ≡ record { map = 0; link = 1; client = 0; seq = 2 } ∷ [] }
+    ensures secondary { rows_at (world_of sevens (make_moves ++ write_moves)) 0 ≡ record { map = 0; link = 1; client = 0; seq = 2 } ∷ [] }
 {}
 
 /// A second disk of the same name is answered by its own entry of the log.

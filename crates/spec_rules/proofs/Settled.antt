@@ -6,7 +6,7 @@ use Rattle.spec_rules.specs.Server.{JobContext, PairState}
 use Rattle.spec_rules.specs.Store.{Store, settled}
 use Rattle.spec_rules.proofs.Tests.{by_test}
 
--- the store is another one only in whether it waits, and in how many records it has
+-- the store is another one only in whether it waits
 pub record IsSettling (old new : PairState) : Type 0 where
   pub pairs : new.pairs ≡ old.pairs
   pub copies : new.copies ≡ old.copies
@@ -15,17 +15,12 @@ pub record IsSettling (old new : PairState) : Type 0 where
   pub tickets : new.store.tickets ≡ old.store.tickets
   pub marks : new.store.marks ≡ old.store.marks
 
-unchanged : (own : PairState) → IsSettling own own
-unchanged own = record { pairs = refl; copies = refl; slots = refl; chains = refl; tickets = refl; marks = refl }
-
-with_settled : (own : PairState) → IsSettling own (record own { store = settled own.store })
-with_settled own = by_test (λ store. IsSettling own (record own { store = store })) own.store.fresh _ own.store
-    (λ waits. record { pairs = refl; copies = refl; slots = refl; chains = refl; tickets = refl; marks = refl }) (λ kept. unchanged own)
-
 -- what holds whatever the store is, holds after it
 pub by_settled : (P : PairState → Type 0) (here : JobContext) (entry : Command) (own : PairState) → ((store : Store) → P (record own { store = store }))
     → P (settled_by here entry own)
 by_settled P here entry own h = by_test P (is_blank_join entry here.me here.inc) _ own (λ joins. h (settled own.store)) (λ other. h own.store)
 
 pub settling : (here : JobContext) (entry : Command) (own : PairState) → IsSettling own (settled_by here entry own)
-settling here entry own = by_test (IsSettling own) (is_blank_join entry here.me here.inc) _ own (λ joins. with_settled own) (λ other. unchanged own)
+settling here entry own = by_test (IsSettling own) (is_blank_join entry here.me here.inc) _ own
+    (λ joins. record { pairs = refl; copies = refl; slots = refl; chains = refl; tickets = refl; marks = refl })
+    (λ other. record { pairs = refl; copies = refl; slots = refl; chains = refl; tickets = refl; marks = refl })

@@ -5,7 +5,7 @@ use Rattle.petal_command.specs.declared.command.Command.{Command}
 use Rattle.petal_msg.specs.declared.letter.Actor.TheVariants as actor
 use Rattle.spec_paxos.specs.declared.record.StateRecord.TheVariants.{Inc}
 use Rattle.spec_rules.specs.Entries.{known_run}
-use Rattle.spec_rules.specs.Jobs.{Acted, down_posts, is_overfull}
+use Rattle.spec_rules.specs.Jobs.{Acted, down_posts, has_full_log}
 use Rattle.spec_rules.specs.Log.{Log, first_log, commits, rev_of}
 use Rattle.spec_rules.specs.Server.{Server, PairState, JobContext, no_copies, no_pairs, letters_of}
 use Rattle.spec_rules.specs.State.{servers_of}
@@ -55,9 +55,9 @@ blanked server =
 abbrev pub stays : Server → Acted
 stays server = record { server = server; letters = [] }
 
--- a boot raises the incarnation, where the journal has room for it; a failed device leaves the server stopped, with the
+-- a boot raises the incarnation, where the state journal has room for it; a failed device leaves the server stopped, with the
 -- incarnation raised or not
 abbrev pub boots : JobContext → Server → WorkEnd → Acted
-boots here server Done = if is_overfull (raised server) then stays server else wakes here (awake (raised server))
+boots here server Done = if has_full_log (raised server) then stays server else wakes here (awake (raised server))
 boots here server (Fault Before) = stays server
-boots here server (Fault After) = stays (if is_overfull (raised server) then server else raised server)
+boots here server (Fault After) = stays (if has_full_log (raised server) then server else raised server)

@@ -1,7 +1,7 @@
 -- Copies: how the server that holds a link alone brings the other one up to date, which is In again. It asks for the pages of the
 -- other's marks and makes them its own; it copies each block that is marked, and all blocks where the other came back with
 -- nothing; and when nothing is left it wants the link's Caught ("Petal: Distributed Virtual Disks", 1996, 3.2).
-use Rattle.std.specs.Prelude.{ℕ, ◌+◌, ◌==◌, ◌&&◌, ◌||◌, not, Bool, true, false, nat_eq, nat_lt, List, [], ◌∷◌, ◌++◌, length, map, filter}
+use Rattle.std.specs.Prelude.{ℕ, ◌+◌, ◌==◌, ◌&&◌, ◌||◌, not, zero, suc, Bool, true, false, nat_eq, nat_lt, List, [], ◌∷◌, ◌++◌, length, map, filter}
 use Rattle.std.specs.Prelude.{slice_get, if◌then◌else◌, Option, Some, None, is_some, option_and_then}
 use Rattle.std.specs.List.{flat_map, list_any}
 use Rattle.std.specs.Option.{option_map_or}
@@ -28,8 +28,8 @@ use Rattle.spec_state.specs.CellState.{cell_link}
 use Rattle.spec_rules.specs.Progress.{progress_on, with_progress, copying_on, with_copying, without_copying, last_copy, with_last_copy, with_full}
 use Rattle.spec_rules.specs.Server.{PairState, JobContext, JobResult, Post, post_to, silent, says_to}
 use Rattle.spec_rules.specs.State.{State, id_of, link_named, is_on, live, other_in, holder_of, needs_full_copy}
-use Rattle.spec_rules.specs.Store.{Store, Stored, chain_in, free_of, with_ticket, with_entry, without_entry, epochs_of}
-use Rattle.spec_rules.specs.Store.{mark_left, with_mark_on, without_mark_on}
+use Rattle.spec_rules.specs.Store.{Store, Stored, chain_in, epochs_of, free_of, has_stored, is_marked, mark_left, unmark_all_on, with_entry}
+use Rattle.spec_rules.specs.Store.{with_mark_on, with_ticket, without_entry, without_mark_on}
 use Rattle.spec_rules.specs.Writes.{is_under_way}
 use Rattle.spec_rules.specs.declared.job.Job.{Job}
 use Rattle.spec_rules.specs.declared.job.Job.TheVariants as job
@@ -157,24 +157,44 @@ abbrev pub catches_up : JobContext → PairState → LinkRow → Option ℕ → 
 catches_up here own row None = silent own
 catches_up here own row (Some other) = goes_for here own row other (next_copy here.state row own)
 
--- in Both, the least block that is marked here without an operation: a mark that a write or an earlier life left
-abbrev pub idle_mark : State → LinkRow → PairState → Option ℕ
-idle_mark state row own = least (filter (λ block. not (is_under_way own (cell_at row block))) (marked_blocks state row own))
+-- how many marks a job takes away together: as many as a commit has records at most
+abbrev pub unmarks_limit : ℕ
+unmarks_limit = 64
 
-abbrev pub takes_mark : PairState → LinkRow → Cell → Option MarkKind → JobResult
-takes_mark own row cell None = silent own
-takes_mark own row cell (Some kind) = record {
-  own = record own { store = without_mark_on own.store kind cell };
+-- in Both, the blocks that have a mark of this kind here without anything under way: marks that writes or an earlier life left
+abbrev pub idle_blocks : State → LinkRow → PairState → MarkKind → List ℕ
+idle_blocks state row own kind =
+    filter (λ block. is_marked own.store kind (cell_at row block) && not (is_under_way own (cell_at row block))) (marked_blocks state row own)
+
+-- the least of them above this one
+abbrev pub next_idle : State → LinkRow → PairState → MarkKind → (after : Option ℕ) → Option ℕ
+next_idle state row own kind after = least (filter (above after) (idle_blocks state row own kind))
+
+-- the cells of the blocks from the next one on, rising, but no more than there is room for
+abbrev pub idle_from : State → LinkRow → PairState → MarkKind → (room : ℕ) → (next : Option ℕ) → List Cell
+idle_from state row own kind zero next = []
+idle_from state row own kind (suc room) None = []
+idle_from state row own kind (suc room) (Some block) = cell_at row block ∷ idle_from state row own kind room (next_idle state row own kind (Some block))
+
+-- the cells that have an old mark of this kind, as many as a job takes
+abbrev pub idle_cells : State → LinkRow → PairState → MarkKind → List Cell
+idle_cells state row own kind = idle_from state row own kind unmarks_limit (next_idle state row own kind None)
+
+abbrev pub takes_marks : PairState → LinkRow → MarkKind → List Cell → JobResult
+takes_marks own row kind [] = silent own
+takes_marks own row kind (cell ∷ cells) = record {
+  own = record own { store = unmark_all_on own.store kind (cell ∷ cells) };
   posts = [];
   jobs = job.Repair (id_of row) ∷ [];
 }
 
-abbrev pub clears_old_marks : PairState → LinkRow → Option ℕ → JobResult
-clears_old_marks own row None = silent own
-clears_old_marks own row (Some block) = takes_mark own row (cell_at row block) (mark_left own.store (cell_at row block))
+-- the old busy marks, and where there is none the old stale ones
+abbrev pub clears_old_marks : State → PairState → LinkRow → (busy : List Cell) → JobResult
+clears_old_marks state own row [] = takes_marks own row mark.Stale (idle_cells state row own mark.Stale)
+clears_old_marks state own row (cell ∷ cells) = takes_marks own row mark.Busy (cell ∷ cells)
 
 abbrev pub repairs_row : JobContext → PairState → LinkRow → LinkState → JobResult
-repairs_row here own row Both = clears_old_marks own row (idle_mark here.state row own)
+repairs_row here own row Both = clears_old_marks here.state own row (idle_cells here.state row own mark.Busy)
 repairs_row here own row (Only holder whole) = catches_up here own row (other_in here.state here.me row)
 repairs_row here own row Lost = silent own
 
@@ -284,7 +304,11 @@ pub record Entry : Type 0 where
   pub index : ℕ
   pub stored : Stored
 
--- it is put as the holder has it, in a free slot
+-- there is a free slot for it, or it needs none, since it is there already
+abbrev pub has_room : Store → Entry → Bool
+has_room store entry = nat_lt 0 (free_of store) || has_stored store entry.key entry.stored
+
+-- it is put as the holder has it; where it is there already that changes no entry
 abbrev pub puts_entry : PairState → Entry → LastCopy → (holder : ℕ) → (room : Bool) → JobResult
 puts_entry own entry last holder true =
     let with_put : PairState = record own { store = with_entry (with_ticket own.store) entry.key entry.stored } in
@@ -296,7 +320,7 @@ puts_entry own entry last holder false = says_to own (Some holder) (body.SyncFul
 abbrev pub hears_entry : PairState → Entry → (holder : ℕ) → LastCopy → JobResult
 hears_entry own entry holder last =
     if nat_lt entry.index last.index then says_to own (Some holder) (body.Synced entry.op (cell_of entry.key) entry.index)
-    else if entry.index == last.index then puts_entry own entry last holder (nat_lt 0 (free_of own.store))
+    else if entry.index == last.index then puts_entry own entry last holder (has_room own.store entry)
     else silent own
 
 -- only of the copy that trimmed the cell last
@@ -371,7 +395,8 @@ is_block _ = false
 
 -- a copy waits to be begun, or a mark to be taken away
 abbrev pub waits_for_job : JobContext → PairState → LinkRow → LinkState → Bool
-waits_for_job here own row Both = is_some (idle_mark here.state row own)
+waits_for_job here own row Both =
+    is_some (next_idle here.state row own mark.Busy None) || is_some (next_idle here.state row own mark.Stale None)
 waits_for_job here own row (Only holder whole) = is_some (other_in here.state here.me row) && is_block (next_copy here.state row own)
 waits_for_job here own row Lost = false
 

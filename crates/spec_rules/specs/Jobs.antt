@@ -29,11 +29,12 @@ use Rattle.spec_rules.specs.Returns.{returning, proposed}
 use Rattle.spec_rules.specs.Draining.{draining}
 use Rattle.spec_rules.specs.Fills.{fill_posts, moving, on_fill, on_filled, on_fill_full}
 use Rattle.spec_rules.specs.Sweeping.{sweep_jobs, sweeps}
+use Rattle.spec_rules.specs.Store.{marked_by}
 use Rattle.spec_rules.specs.declared.step.CommitEnd.{CommitEnd}
 use Rattle.spec_rules.specs.declared.step.CommitEnd.TheVariants.{Before, After}
 use Rattle.spec_rules.specs.declared.job.Job.{Job}
 use Rattle.spec_rules.specs.declared.job.Job.TheVariants as job
-use Rattle.petal_base.specs.Limits.{journal_records}
+use Rattle.petal_base.specs.Limits.{journal_records, marks_limit}
 
 -- what is done with the content of a letter of the pairs, at a server of its revision that handles it
 unfoldable pub handles : JobContext → PairState → Body → JobResult
@@ -55,7 +56,7 @@ handles here own (body.Full seq) = silent own
 handles here own (body.Reserve number cell) = on_reserve here own number cell
 handles here own (body.Reserved number cell) = on_reserved here own number cell
 handles here own (body.PairFull number cell) = on_pair_full here own number cell
-handles here own (body.Replicate number key version bytes) = on_replicate here own number key bytes
+handles here own (body.Replicate number key version origin bytes) = on_replicate here own number key origin bytes
 handles here own (body.Replicated number cell) = on_replicated here own number cell
 handles here own (body.HelloAsk map link after) = on_hello_ask here own (record { map = map; link = link }) after
 handles here own (body.Hello map link after block) = on_hello here own (record { map = map; link = link }) after block
@@ -199,7 +200,7 @@ starting here server rest wants =
       letters = letters_of (sender here) 0 done.posts;
     }
 
--- what the job leaves where it meets room in both journals
+-- what the job leaves where its commit meets room
 abbrev pub job_done : JobContext → Server → Job → List Job → Acted
 job_done here server job.Apply rest = crossing here server rest (known server.log (next_place server.log)) (applies server.log)
 job_done here server job.Start rest = starting here server rest (wanted_by here server)
@@ -221,11 +222,19 @@ stops here server = record {
   letters = letters_of (record { from = actor.Server here.me; inc = here.inc; rev = 0 }) 0 (down_posts here.me here.inc (servers_of here.state));
 }
 
--- a journal would have more records than it has room for
-abbrev pub is_overfull : Server → Bool
-is_overfull server = nat_lt journal_records server.own.store.records || nat_lt journal_records (length server.log.records)
+-- the state journal would have more records than it has room for
+abbrev pub has_full_log : Server → Bool
+has_full_log server = nat_lt journal_records (length server.log.records)
 
--- a job whose commit meets a full journal commits nothing, and the server stops
+-- the data device would have more marks and rows than it has room for
+abbrev pub has_too_many_marks : Server → Bool
+has_too_many_marks server = nat_lt marks_limit (marked_by server.own.store)
+
+-- one of its devices would have more than it has room for
+abbrev pub is_overfull : Server → Bool
+is_overfull server = has_full_log server || has_too_many_marks server
+
+-- a job whose commit there is no room for commits nothing, and the server stops
 abbrev pub where_room : JobContext → Server → Acted → Acted
 where_room here server acted = if is_overfull acted.server then stops here server else acted
 

@@ -1,15 +1,21 @@
 -- What a server keeps of blocks on its data device.
-use Rattle.std.specs.Prelude.{ℕ, ◌+◌, ◌-◌, Bool, true, false, List, [], ◌∷◌, length, map, max, sum_by, nat_le, if◌then◌else◌, Option, Some, None, unwrap_or}
+use Rattle.std.specs.Prelude.{Bool, List, None, Option, Some, [], false, fold, if◌then◌else◌, length, map, max, nat_eq, nat_le, sum_by, true}
+use Rattle.std.specs.Prelude.{unwrap_or, ℕ, ◌&&◌, ◌+◌, ◌-◌, ◌==◌, ◌∷◌}
+use Rattle.std.specs.Cmp.Lexicographic.{pointwise}
+use Rattle.std.specs.Option.{option_map_or}
 use Rattle.std.specs.declared.cmp.Ordering.{Ordering}
 use Rattle.std.specs.Ordering.{nat_cmp, ordering_then}
 use Rattle.busy_marks.specs.Marks.{has_mark, with_mark, without_mark}
 use Rattle.busy_marks.specs.declared.marks.Mark.{Mark}
 use Rattle.busy_marks.specs.declared.marks.MarkKind.{MarkKind}
 use Rattle.busy_marks.specs.declared.marks.MarkKind.TheVariants.{Busy, Stale}
+use Rattle.client_rows.specs.declared.row.Row.{Row}
+use Rattle.client_rows.specs.Rows.{rows_after}
 use Rattle.petal_base.specs.declared.cell.Cell.{Cell}
 use Rattle.petal_base.specs.declared.cell.Key.{Key}
 use Rattle.petal_base.specs.Block.{zero_block}
 use Rattle.petal_base.specs.Cells.{cell_of}
+use Rattle.petal_base.specs.Origins.{Named}
 use Rattle.petal_table.specs.Table.{Table, at, put, without}
 
 -- an entry: a block's bytes, and how often its cell had been put
@@ -21,15 +27,15 @@ pub record Stored : Type 0 where
 abbrev pub Chain : Type 0
 Chain = Table ℕ Stored
 
--- the slots of the device, the chains of its cells, how many slots are set apart for puts to come, the marks, whether the
--- store was formatted to be filled by others and is not yet so, and how many records its journal has
+-- the slots of the device, the chains of its cells, how many slots are set apart for puts to come, the marks, the rows, and whether
+-- the store was formatted to be filled by others and is not yet so
 pub record Store : Type 0 where
   pub slots : ℕ
   pub chains : Table Cell Chain
   pub tickets : ℕ
   pub marks : List Mark
+  pub rows : List Row
   pub fresh : Bool
-  pub records : ℕ
 
 -- cells stand by map and then by block
 abbrev pub cell_cmp : Cell → Cell → Ordering
@@ -37,15 +43,15 @@ cell_cmp a b = ordering_then (nat_cmp a.map b.map) (nat_cmp a.block b.block)
 
 -- a device on which nothing was put, and that waits for nobody to fill it
 abbrev pub empty_store : ℕ → Store
-empty_store slots = record { slots = slots; chains = []; tickets = 0; marks = []; fresh = false; records = 0 }
+empty_store slots = record { slots = slots; chains = []; tickets = 0; marks = []; rows = []; fresh = false }
 
 -- a blank device, which is to be filled by others
 abbrev pub blank_store : ℕ → Store
 blank_store slots = record (empty_store slots) { fresh = true }
 
--- the device waits for nobody any more, which is one record more where it did
+-- the device waits for nobody any more
 abbrev pub settled : Store → Store
-settled store = if store.fresh then record store { fresh = false; records = store.records + 1 } else store
+settled store = record store { fresh = false }
 
 -- a cell's entries
 abbrev pub chain_in : Table Cell Chain → Cell → Chain
@@ -83,6 +89,14 @@ entries_of chains = sum_by (λ row. length row.1) chains
 abbrev pub free_of : Store → ℕ
 free_of store = store.slots - entries_of store.chains - store.tickets
 
+-- two entries are the same
+abbrev pub same_stored : Stored → Stored → Bool
+same_stored a b = (a.version == b.version) && pointwise nat_eq a.bytes b.bytes
+
+-- this very entry stands at this key
+abbrev pub has_stored : Store → Key → Stored → Bool
+has_stored store key entry = option_map_or (same_stored entry) (at nat_cmp (chain_in store.chains (cell_of key)) key.epoch) false
+
 -- the chains with this entry at this key
 abbrev pub chains_with : Table Cell Chain → Key → Stored → Table Cell Chain
 chains_with chains key entry = put cell_cmp chains (cell_of key) (put nat_cmp (chain_in chains (cell_of key)) key.epoch entry)
@@ -95,21 +109,26 @@ with_ticket store = record store { tickets = store.tickets + 1 }
 abbrev pub without_ticket : Store → Store
 without_ticket store = record store { tickets = store.tickets - 1 }
 
--- an entry is put into a slot that was set apart, which is one record more
+-- an entry is put into a slot that was set apart
 abbrev pub with_entry : Store → Key → Stored → Store
-with_entry store key entry = record store { chains = chains_with store.chains key entry; tickets = store.tickets - 1; records = store.records + 1 }
+with_entry store key entry = record store { chains = chains_with store.chains key entry; tickets = store.tickets - 1 }
+
+-- the number of a client's write is kept in the row of its map, link and client, where a put is for one
+abbrev pub with_row_of : Store → (map : ℕ) → Option Named → Store
+with_row_of store map origin = record store { rows = rows_after store.rows map origin }
+
+-- an entry is put, for a client's write if it is for one
+abbrev pub with_put : Store → Key → Stored → Option Named → Store
+with_put store key entry origin = with_row_of (with_entry store key entry) key.map origin
 
 -- the chains with this chain at the cell; a cell without entries has none
 abbrev pub chains_at : Table Cell Chain → Cell → Chain → Table Cell Chain
 chains_at chains cell [] = without cell_cmp chains cell
 chains_at chains cell (row ∷ later) = put cell_cmp chains cell (row ∷ later)
 
--- an entry that is there is dropped, which is one record more
+-- an entry is dropped
 abbrev pub without_entry : Store → Key → Store
-without_entry store key = record store {
-  chains = chains_at store.chains (cell_of key) (without nat_cmp (chain_in store.chains (cell_of key)) key.epoch);
-  records = store.records + 1;
-}
+without_entry store key = record store { chains = chains_at store.chains (cell_of key) (without nat_cmp (chain_in store.chains (cell_of key)) key.epoch) }
 
 -- the epochs of a chain, rising
 abbrev pub epochs_of : Chain → List ℕ
@@ -132,16 +151,18 @@ mark_left store cell =
     else if is_marked store Stale cell then Some Stale
     else None
 
--- the cell is marked, which is one record more where it was not
+-- the cell is marked
 abbrev pub with_mark_on : Store → MarkKind → Cell → Store
-with_mark_on store kind cell = record store {
-  marks = with_mark store.marks (mark_on kind cell);
-  records = if is_marked store kind cell then store.records else store.records + 1;
-}
+with_mark_on store kind cell = record store { marks = with_mark store.marks (mark_on kind cell) }
 
--- the cell's mark is gone, which is one record more where it had one
+-- the cell's mark is gone
 abbrev pub without_mark_on : Store → MarkKind → Cell → Store
-without_mark_on store kind cell = record store {
-  marks = without_mark store.marks (mark_on kind cell);
-  records = if is_marked store kind cell then store.records + 1 else store.records;
-}
+without_mark_on store kind cell = record store { marks = without_mark store.marks (mark_on kind cell) }
+
+-- the marks of this kind on these cells are gone
+abbrev pub unmark_all_on : Store → MarkKind → List Cell → Store
+unmark_all_on store kind cells = record store { marks = fold (λ marks cell. without_mark marks (mark_on kind cell)) store.marks cells }
+
+-- how many marks and rows there are, of which a store has room for `marks_limit`
+abbrev pub marked_by : Store → ℕ
+marked_by store = length store.marks + length store.rows

@@ -2,13 +2,15 @@
 -- over chained declustering; the second server's slot is reserved first, and the lead commits before the second server). A
 -- block is marked at its lead before the lead puts: busy where a second server is to follow, stale where there is none.
 use Rattle.std.specs.Prelude.{ℕ, ◌+◌, ◌==◌, ◌&&◌, ◌||◌, not, Bool, true, false, nat_lt, List, [], ◌∷◌, if◌then◌else◌}
-use Rattle.std.specs.Prelude.{Option, Some, None, is_some, option_and_then}
+use Rattle.std.specs.Prelude.{Option, Some, None, is_some, option_and_then, option_map}
 use Rattle.std.specs.Ordering.{nat_cmp}
 use Rattle.busy_marks.specs.declared.marks.MarkKind.{MarkKind}
 use Rattle.busy_marks.specs.declared.marks.MarkKind.TheVariants as mark
 use Rattle.petal_base.specs.declared.cell.Cell.{Cell}
 use Rattle.petal_base.specs.declared.cell.Key.{Key}
 use Rattle.petal_base.specs.Cells.{cell_of, key_at}
+use Rattle.petal_base.specs.Limits.{client_limit}
+use Rattle.petal_base.specs.Origins.{Named}
 use Rattle.petal_table.specs.Table.{at, put, without}
 use Rattle.petal_msg.specs.declared.body.Body.{Body}
 use Rattle.petal_msg.specs.declared.body.Body.TheVariants as body
@@ -28,7 +30,7 @@ use Rattle.petal_msg.specs.declared.operation.Stage.{Stage}
 use Rattle.spec_state.specs.declared.answer.Hold.TheVariants as hold
 use Rattle.spec_state.specs.CellState.{cell_link, row_lead, source}
 use Rattle.spec_rules.specs.State.{State, Hold, held, is_lead, leads_link, in_both, is_second, first, second}
-use Rattle.spec_rules.specs.Store.{cell_cmp, chain_in, version_of, free_of, with_ticket, without_ticket, with_entry, with_mark_on, without_mark_on}
+use Rattle.spec_rules.specs.Store.{cell_cmp, chain_in, version_of, free_of, with_ticket, without_ticket, with_put, with_mark_on, without_mark_on}
 use Rattle.spec_rules.specs.Progress.{copying_on, has_proposed}
 use Rattle.spec_rules.specs.Server.{PairState, JobContext, JobResult, silent, says, says_to}
 use Rattle.spec_rules.specs.declared.job.Job.TheVariants as job
@@ -93,13 +95,26 @@ finishes own client seq ending =
 
 -- ### The next stage of a pending operation
 
+-- the operation was opened for a client's write
+abbrev pub is_clients : OpKind → Bool
+is_clients kind.Write = true
+is_clients kind.Fill = false
+is_clients kind.Copy = false
+
+-- for which write of a client the operation puts, if it is for one: on the link of its cell, where there is one
+abbrev pub origin_by : State → Pending → Option Named
+origin_by state op =
+    if is_clients op.kind
+    then option_map (λ row. record { link = row.link; client = op.client; seq = op.seq }) (cell_link state op.cell)
+    else None
+
 -- the lead puts its own copy, with the version after that of its chain
-abbrev pub puts : PairState → Pending → JobResult
-puts own op =
+abbrev pub puts : JobContext → PairState → Pending → JobResult
+puts here own op =
     let version = version_of (chain_in own.store.chains op.cell) + 1 in
     let put_op : Pending = record op { version = version; stage = record op.stage { put = true } } in
     record {
-      own = with_pending (record own { store = with_entry own.store op.key (record { version = version; bytes = op.bytes }) }) put_op;
+      own = with_pending (record own { store = with_put own.store op.key (record { version = version; bytes = op.bytes }) (origin_by here.state op) }) put_op;
       posts = [];
       jobs = job.Stage op.cell ∷ [];
     }
@@ -150,8 +165,9 @@ ends here own op kind.Copy ending = silent own
 abbrev pub acts : JobContext → PairState → Pending → Action → JobResult
 acts here own op action.Reserve = says_to own (second here.state op.cell) (body.Reserve op.op op.cell)
 acts here own op (action.Mark kind) = marks own op kind
-acts here own op action.Put = puts own op
-acts here own op action.Replicate = says_to own (second here.state op.cell) (body.Replicate op.op op.key op.version op.bytes)
+acts here own op action.Put = puts here own op
+acts here own op action.Replicate =
+    says_to own (second here.state op.cell) (body.Replicate op.op op.key op.version (origin_by here.state op) op.bytes)
 acts here own op (action.Unmark kind) = unmarks own op kind
 acts here own op action.Answer = ends here (without_pending own op.cell) op op.kind Written
 acts here own op action.Drop = silent (gives_up own op)
@@ -188,12 +204,6 @@ abbrev pub is_writes_held : Hold → Bool
 is_writes_held hold.No = false
 is_writes_held hold.Writes = true
 is_writes_held hold.All = true
-
--- the operation was opened for a client's write
-abbrev pub is_clients : OpKind → Bool
-is_clients kind.Write = true
-is_clients kind.Fill = false
-is_clients kind.Copy = false
 
 -- the operation was opened for this request
 abbrev pub is_for : Pending → Wanted → Bool
@@ -258,10 +268,11 @@ takes here own want Newer =
     if is_pending_for (pending_on own want.cell) want then silent own
     else takes_newer here own want (is_kept_back here.state own want.cell) (is_under_way own want.cell)
 
--- a write is taken by the cell's lead, once
+-- a write is taken by the cell's lead, once; its client is one of those that write
 unfoldable pub on_write : JobContext → PairState → Wanted → JobResult
 on_write here own want =
-    if is_lead here.state here.me want.cell then takes here own want (standing (at nat_cmp own.pairs.finished want.client) want.seq)
+    if is_lead here.state here.me want.cell && nat_lt want.client client_limit
+    then takes here own want (standing (at nat_cmp own.pairs.finished want.client) want.seq)
     else silent own
 
 -- ### Reserved, PairFull and Replicated
@@ -344,23 +355,26 @@ hears_reserve here own cell number (Some last) =
 unfoldable pub on_reserve : JobContext → PairState → ℕ → Cell → JobResult
 on_reserve here own number cell = if is_second here.state here.me cell then hears_reserve here own cell number (last_on own cell) else silent own
 
--- the second server puts its copy, with the version after that of its own chain
-abbrev pub follows : JobContext → PairState → ℕ → Key → List ℕ → JobResult
-follows here own number key bytes =
+-- the second server puts its copy, with the version after that of its own chain, for the write that the lead named
+abbrev pub follows : JobContext → PairState → ℕ → Key → Option Named → List ℕ → JobResult
+follows here own number key origin bytes =
     let version = version_of (chain_in own.store.chains (cell_of key)) + 1 in
-    let with_put : PairState = record own { store = with_entry own.store key (record { version = version; bytes = bytes }) } in
-    tells here (with_last with_put (cell_of key) number follow_progress.Replicated) (cell_of key) number follow_progress.Replicated
+    let now : PairState = record own { store = with_put own.store key (record { version = version; bytes = bytes }) origin } in
+    tells here (with_last now (cell_of key) number follow_progress.Replicated) (cell_of key) number follow_progress.Replicated
 
 -- once, in the slot that was set apart
-abbrev pub follows_once : JobContext → PairState → ℕ → Key → List ℕ → FollowProgress → JobResult
-follows_once here own number key bytes follow_progress.Reserved = follows here own number key bytes
-follows_once here own number key bytes follow_progress.Replicated = tells here own (cell_of key) number follow_progress.Replicated
+abbrev pub follows_once : JobContext → PairState → ℕ → Key → Option Named → List ℕ → FollowProgress → JobResult
+follows_once here own number key origin bytes follow_progress.Reserved = follows here own number key origin bytes
+follows_once here own number key origin bytes follow_progress.Replicated = tells here own (cell_of key) number follow_progress.Replicated
 
 -- only for the number whose slot was set apart; an equal number is answered again
-abbrev pub hears_replicate : JobContext → PairState → ℕ → Key → List ℕ → Option LastOp → JobResult
-hears_replicate here own number key bytes None = silent own
-hears_replicate here own number key bytes (Some last) = if number == last.op then follows_once here own number key bytes last.progress else silent own
+abbrev pub hears_replicate : JobContext → PairState → ℕ → Key → Option Named → List ℕ → Option LastOp → JobResult
+hears_replicate here own number key origin bytes None = silent own
+hears_replicate here own number key origin bytes (Some last) =
+    if number == last.op then follows_once here own number key origin bytes last.progress else silent own
 
-unfoldable pub on_replicate : JobContext → PairState → ℕ → Key → List ℕ → JobResult
-on_replicate here own number key bytes =
-    if is_second here.state here.me (cell_of key) then hears_replicate here own number key bytes (last_on own (cell_of key)) else silent own
+unfoldable pub on_replicate : JobContext → PairState → ℕ → Key → Option Named → List ℕ → JobResult
+on_replicate here own number key origin bytes =
+    if is_second here.state here.me (cell_of key)
+    then hears_replicate here own number key origin bytes (last_on own (cell_of key))
+    else silent own

@@ -1,9 +1,12 @@
 //! What is plain of the rules.
 
-ghost use Rattle.std.specs.Prelude.{◌≡◌, ◌≢◌, ◌↔◌, ◌≤◌, ◌+◌, ℕ, List, Some, None, false};
+ghost use Rattle.std.specs.Prelude.{◌≡◌, ◌≢◌, ◌↔◌, ◌≤◌, ◌+◌, ℕ, List, Option, Some, None, false};
 ghost use Rattle.std.specs.Ordering.{nat_cmp};
 ghost use Rattle.petal_base.specs.Cells.{cell_of};
+ghost use Rattle.petal_base.specs.Limits.{client_limit};
+ghost use Rattle.petal_base.specs.Origins.{Named};
 ghost use Rattle.petal_base.specs.declared.cell.Key.{Key};
+ghost use Rattle.client_rows.specs.Rows.{rows_after};
 ghost use Rattle.petal_table.specs.Table.{at, put};
 ghost use Rattle.petal_msg.specs.declared.letter.Actor.{Actor};
 ghost use Rattle.petal_msg.specs.declared.letter.Letter.{Letter};
@@ -35,9 +38,10 @@ pub fn letters_stay_sent()
         → In letter (step who what setting w stamp).letters → In letter (step who what setting w stamp).world.sent }
 {}
 
-/// A server that is not the cell's lead takes no write.
+/// A server that is not the cell's lead takes no write, and no server takes one that is of none of the clients that write.
 pub fn only_the_lead_takes_a_write()
-    ensures { (here : JobContext) (own : PairState) (want : Wanted) → is_lead here.state here.me want.cell ≡ false → on_write here own want ≡ silent own }
+    ensures lead { (here : JobContext) (own : PairState) (want : Wanted) → is_lead here.state here.me want.cell ≡ false → on_write here own want ≡ silent own }
+    ensures writer { (here : JobContext) (own : PairState) (want : Wanted) → client_limit ≤ want.client → on_write here own want ≡ silent own }
 {}
 
 /// A request that its lead has finished, or that is older, changes nothing there: it is answered again or dropped.
@@ -55,20 +59,22 @@ pub fn an_ended_request_is_remembered()
 
 /// The second server puts a copy once, and only for the number whose slot it set apart.
 pub fn a_second_copy_is_put_once()
-    ensures again { (here : JobContext) (own : PairState) (number : ℕ) (key : Key) (bytes : List ℕ)
-        → last_on own (cell_of key) ≡ Some (record { op = number; progress = Replicated }) → (on_replicate here own number key bytes).own ≡ own }
-    ensures other { (here : JobContext) (own : PairState) (number : ℕ) (key : Key) (bytes : List ℕ) (last : LastOp) → last_on own (cell_of key) ≡ Some last
-        → number ≢ last.op → on_replicate here own number key bytes ≡ silent own }
-    ensures unknown { (here : JobContext) (own : PairState) (number : ℕ) (key : Key) (bytes : List ℕ) → last_on own (cell_of key) ≡ None
-        → on_replicate here own number key bytes ≡ silent own }
+    ensures again { (here : JobContext) (own : PairState) (number : ℕ) (key : Key) (origin : Option Named) (bytes : List ℕ)
+        → last_on own (cell_of key) ≡ Some (record { op = number; progress = Replicated }) → (on_replicate here own number key origin bytes).own ≡ own }
+    ensures other { (here : JobContext) (own : PairState) (number : ℕ) (key : Key) (origin : Option Named) (bytes : List ℕ) (last : LastOp)
+        → last_on own (cell_of key) ≡ Some last → number ≢ last.op → on_replicate here own number key origin bytes ≡ silent own }
+    ensures unknown { (here : JobContext) (own : PairState) (number : ℕ) (key : Key) (origin : Option Named) (bytes : List ℕ) → last_on own (cell_of key) ≡ None
+        → on_replicate here own number key origin bytes ≡ silent own }
 {}
 
-/// A second server that has put its copy has the block's bytes, with the version after that of its chain, and says so to
-/// whoever asks for this number again.
+/// A second server that has put its copy has the block's bytes, with the version after that of its chain, and the row of the write that
+/// its lead named, and says so to whoever asks for this number again.
 pub fn a_second_copy_is_put()
-    ensures chain { (here : JobContext) (own : PairState) (number : ℕ) (key : Key) (bytes : List ℕ)
-        → chain_in (follows here own number key bytes).own.store.chains (cell_of key) ≡ put nat_cmp (chain_in own.store.chains (cell_of key)) key.epoch
+    ensures chain { (here : JobContext) (own : PairState) (number : ℕ) (key : Key) (origin : Option Named) (bytes : List ℕ)
+        → chain_in (follows here own number key origin bytes).own.store.chains (cell_of key) ≡ put nat_cmp (chain_in own.store.chains (cell_of key)) key.epoch
         (record { version = version_of (chain_in own.store.chains (cell_of key)) + 1; bytes = bytes }) }
-    ensures last { (here : JobContext) (own : PairState) (number : ℕ) (key : Key) (bytes : List ℕ)
-        → last_on (follows here own number key bytes).own (cell_of key) ≡ Some (record { op = number; progress = Replicated }) }
+    ensures row { (here : JobContext) (own : PairState) (number : ℕ) (key : Key) (origin : Option Named) (bytes : List ℕ)
+        → (follows here own number key origin bytes).own.store.rows ≡ rows_after own.store.rows key.map origin }
+    ensures last { (here : JobContext) (own : PairState) (number : ℕ) (key : Key) (origin : Option Named) (bytes : List ℕ)
+        → last_on (follows here own number key origin bytes).own (cell_of key) ≡ Some (record { op = number; progress = Replicated }) }
 {}

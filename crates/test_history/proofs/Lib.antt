@@ -1,1 +1,2 @@
+pub mod FullMarks
 pub mod Lines

@@ -1,16 +1,19 @@
 -- Runs of three servers, of which one stops.
-use Rattle.std.specs.Prelude.{ℕ, List, [], ◌∷◌, ◌++◌, true, if◌then◌else◌, ◌==◌}
+use Rattle.std.specs.Prelude.{ℕ, List, [], ◌∷◌, ◌++◌, ◌≡◌, true, false, if◌then◌else◌, ◌==◌}
+use Rattle.busy_marks.specs.declared.marks.Mark.{Mark}
+use Rattle.busy_marks.specs.declared.marks.MarkKind.TheVariants.{Busy}
 use Rattle.petal_command.specs.declared.command.Command.{Command}
 use Rattle.petal_command.specs.declared.command.Command.TheVariants.{Leave}
 use Rattle.script_lines.specs.declared.request.Line.{Line}
 use Rattle.script_lines.specs.declared.request.Request.TheVariants as request
 use Rattle.spec_rules.specs.Clients.{first_client}
-use Rattle.petal_base.specs.Limits.{journal_records}
+use Rattle.spec_rules.specs.Lists.{put_at}
+use Rattle.petal_base.specs.Limits.{marks_limit}
 use Rattle.spec_rules.specs.Server.{Server, PairState, first_server}
-use Rattle.spec_rules.specs.Store.{empty_store}
+use Rattle.spec_rules.specs.Store.{is_marked, marked_by}
 use Rattle.spec_rules.specs.World.{Setting, World, start}
 use Rattle.spec_rules.specs.declared.step.CommitEnd.{CommitEnd}
-use Rattle.spec_history.specs.Examples.{client_ticks, crowd_disk, crowd_log, line_of, makes, passes, run_of, server_ticks, writes}
+use Rattle.spec_history.specs.Examples.{cell_at, client_ticks, crowd_disk, crowd_log, line_of, makes, passes, run_of, server_ticks, writes}
 use Rattle.spec_history.specs.Play.{Move, Calls, Hands, Works}
 use Rattle.test_history.specs.Acts.{Act, Moves, Stops, Shows, Fails, world_after}
 
@@ -48,9 +51,13 @@ leave_of_1 = Leave 1 1
 
 -- ### The secondary stops in the middle of a write
 
--- the write's lead hears that the second server has a slot for it, and marks its block
+-- the write's lead hears that the second server has a slot for it
+abbrev pub reserved_moves : List Move
+reserved_moves = Calls 0 2 ∷ passes 0 0 ++ passes 1 1 ++ Hands 2 ∷ []
+
+-- and marks its block
 abbrev pub mark_moves : List Move
-mark_moves = Calls 0 2 ∷ passes 0 0 ++ passes 1 1 ++ passes 2 0
+mark_moves = reserved_moves ++ Works 0 ∷ []
 
 -- it has put, and the second server was not told yet
 abbrev pub put_moves : List Move
@@ -116,15 +123,19 @@ seen_again_acts = asked_again_acts ++ Shows 1 4 ∷ Moves (Hands 3 ∷ []) ∷ [
 abbrev pub failed_acts : CommitEnd → List Act
 failed_acts end = Moves mark_moves ∷ Fails 0 end ∷ []
 
--- the ready world, but that the journals of the data devices are full
-abbrev pub full_server : Server
-full_server =
-    let own : PairState = ready_server.own in
-    record ready_server { own = record own { store = record (empty_store 4) { records = journal_records } } }
+-- the write's lead is to mark its block, and has these marks
+abbrev pub marked_world : List Mark → World
+marked_world marks =
+    let w = trio_after (Moves reserved_moves ∷ []) in
+    let lead : Server = w.servers 0 in
+    let own : PairState = lead.own in
+    record w { servers = put_at w.servers 0 (record lead { own = record own { store = record own.store { marks = marks } } }) }
 
-abbrev pub full_world : World
-full_world = record ready { servers = λ n. full_server }
+-- they are as many as there may be, and none of them is on the block
+pub record AreAllMarks (marks : List Mark) : Type 0 where
+  pub all : marked_by ((marked_world marks).servers 0).own.store ≡ marks_limit
+  pub other : is_marked ((marked_world marks).servers 0).own.store Busy (cell_at 0) ≡ false
 
--- the write's lead is to mark its block, for which there is no room
-abbrev pub full_acts : List Act
-full_acts = Moves mark_moves ∷ []
+-- the lead does its next job, which marks the block
+abbrev pub full_after : List Mark → World
+full_after marks = world_after trio (marked_world marks) (Moves (Works 0 ∷ []) ∷ [])

@@ -1,12 +1,12 @@
 //! Servers that stop by themselves.
 
-ghost use Rattle.std.specs.Prelude.{◌≡◌, [], ◌∷◌, length, false};
+ghost use Rattle.std.specs.Prelude.{◌≡◌, List, [], ◌∷◌, length, false};
+ghost use Rattle.busy_marks.specs.declared.marks.Mark.{Mark};
 ghost use Rattle.busy_marks.specs.declared.marks.MarkKind.TheVariants.{Busy};
 ghost use Rattle.petal_base.specs.Block.{fill_block};
 ghost use Rattle.spec_rules.specs.declared.step.CommitEnd.TheVariants.{Before, After};
 ghost use Rattle.spec_history.specs.Examples.{cell_at, chain_at, marks_at, one_entry};
-ghost use Rattle.test_history.specs.Acts.{world_after};
-ghost use Rattle.test_history.specs.Stops.{failed_acts, full_acts, full_world, trio, trio_after};
+ghost use Rattle.test_history.specs.Stops.{AreAllMarks, failed_acts, full_after, trio_after};
 
 /// A device fails in the job that puts, before its commit: nothing was put, the server has stopped, and the two others are
 /// told, by the letters after the three of the write.
@@ -24,9 +24,10 @@ pub fn a_device_fails_after_a_put()
     ensures told { length (trio_after (failed_acts After)).sent ≡ 5 }
 {}
 
-/// A lead whose journal is full marks nothing: it stops, and the two others are told.
-pub fn a_full_journal_stops_a_server()
-    ensures stopped { ((world_after trio full_world full_acts).servers 0).life.running ≡ false }
-    ensures unmarked { marks_at (world_after trio full_world full_acts) 0 ≡ [] }
-    ensures told { length (world_after trio full_world full_acts).sent ≡ 5 }
+/// A lead with as many marks as there may be, none of them on the block that is written, does not mark it: it stops, and the two others
+/// are told.
+pub fn a_lead_with_all_its_marks_stops()
+    ensures stopped { (marks : List Mark) → AreAllMarks marks → ((full_after marks).servers 0).life.running ≡ false }
+    ensures unmarked { (marks : List Mark) → AreAllMarks marks → marks_at (full_after marks) 0 ≡ marks }
+    ensures told { (marks : List Mark) → AreAllMarks marks → length (full_after marks).sent ≡ 5 }
 {}

@@ -23,7 +23,7 @@ pub use copies::{
     a_block_is_copied, a_late_entry_is_dropped, a_link_is_both_again, a_write_waits_for_a_caught,
 };
 pub use faults::{
-    a_device_fails_after_a_put, a_device_fails_before_a_put, a_full_journal_stops_a_server,
+    a_device_fails_after_a_put, a_device_fails_before_a_put, a_lead_with_all_its_marks_stops,
 };
 pub use returns::{a_primary_boots_before_its_leave, a_returning_primary_drops_its_put};
 pub use settles::{a_copy_finds_no_slot, a_settle_goes_round_by_round};

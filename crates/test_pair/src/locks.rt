@@ -2,6 +2,7 @@
 
 use pair_lock::{OpKind, PairError, PairLock, Pending, Scope, Stage};
 use petal_base::{Block, Cell, Key, NoMemory, SharedBlock};
+use petal_msg::WriterNumber;
 use std::alloc::Global;
 use std::test::Fail;
 
@@ -36,7 +37,7 @@ fn pending(alloc: Global, op: u64, kind: OpKind, cell: Cell) -> Result<Pending, 
             trimmed: false,
             index: 0,
         },
-        client: 0,
+        client: WriterNumber::new(0),
         seq: 1,
         rev: 1,
         bytes,

@@ -13,7 +13,7 @@ fn put<D: Disk>(
     block: &Block,
 ) -> Result<(), StoreError> {
     let ticket = store.reserve()?;
-    store.put(ticket, key, version, block)
+    store.put(ticket, key, version, block, None)
 }
 
 fn put_sevens<D: Disk>(

@@ -3,7 +3,7 @@
 use busy_marks::MarkKind;
 use petal_base::{Block, Cell, Key, Version};
 use petal_disk::{Disk, MemDisk};
-use server_store::{Store, StoreError};
+use server_store::{Reread, Store, StoreError};
 use std::alloc::Global;
 use std::test::Fail;
 
@@ -29,7 +29,7 @@ fn key(block: u64) -> Key {
 
 fn put<D: Disk>(store: &mut Store<D>, block: u64, content: &Block) -> Result<(), StoreError> {
     let ticket = store.reserve()?;
-    store.put(ticket, key(block), 3, content)
+    store.put(ticket, key(block), 3, content, None)
 }
 
 fn last_byte<D: Disk>(store: &mut Store<D>, alloc: Global, block: u64) -> Result<u8, Fail> {
@@ -138,7 +138,7 @@ fn put_two<D: Disk>(alloc: Global, store: &mut Store<D>) -> Result<bool, Fail> {
 fn drops_and_reopens<D: Disk>(alloc: Global, store: &mut Store<D>) -> Result<bool, StoreError> {
     store.drop_key(key(5))?;
     Ok(
-        store.reopen(alloc)?
+        store.reopen(alloc)? == Reread::Same
             && store.nth(CELL, 0).is_none()
             && store.next_block(0, None) == Some(6)
             && store.free() == 1,

@@ -101,12 +101,16 @@ fn a_blank_device_fails_in_the_boot(rt: HostRuntime) -> Result<(), Fail> {
         "data write 1",
         "data write 2",
         "data write 3 stop",
+        "data write 4",
+        "data write 5 stop",
         "data sync 1",
         "data sync 2 stop",
         "data sync 3",
         "data sync 4",
+        "data sync 5 stop",
+        "data sync 6",
         // the store is whole then, and is made again
-        "data sync 4 late",
+        "data sync 6 late",
     ] {
         failing_boot_of_blank(rt.alloc(), plan, 0)?;
     }
@@ -166,28 +170,28 @@ fn stops_late(alloc: Global, plan: &str) -> Result<(), Fail> {
 #[test]
 fn the_commit_of_its_own_join_is_cut_off(rt: HostRuntime) -> Result<(), Fail> {
     // what was not synced is lost: the commit is not made, and the next life finds the device as it was
-    fails(rt.alloc(), "write 4")?;
-    stops(rt.alloc(), "write 4 stop")?;
-    fails(rt.alloc(), "sync 7")?;
-    stops(rt.alloc(), "write 5 stop")?;
-    fails(rt.alloc(), "sync 8")?;
-    stops(rt.alloc(), "sync 8 stop")
+    fails(rt.alloc(), "write 6")?;
+    stops(rt.alloc(), "write 6 stop")?;
+    fails(rt.alloc(), "sync 9")?;
+    stops(rt.alloc(), "write 7 stop")?;
+    fails(rt.alloc(), "sync 10")?;
+    stops(rt.alloc(), "sync 10 stop")
 }
 
 #[test]
 fn a_commit_of_the_fill_is_made_and_its_server_stops(rt: HostRuntime) -> Result<(), Fail> {
     // of its own join, and of the first put of a copy
-    fails_late(rt.alloc(), "sync 8 late")?;
-    stops_late(rt.alloc(), "sync 8 late stop")?;
-    fails_late(rt.alloc(), "sync 11 late")?;
-    stops_late(rt.alloc(), "sync 11 late stop")
+    fails_late(rt.alloc(), "sync 10 late")?;
+    stops_late(rt.alloc(), "sync 10 late stop")?;
+    fails_late(rt.alloc(), "sync 13 late")?;
+    stops_late(rt.alloc(), "sync 13 late stop")
 }
 
 #[test]
 fn the_put_of_a_copy_is_cut_off(rt: HostRuntime) -> Result<(), Fail> {
-    fails(rt.alloc(), "write 6")?;
-    fails(rt.alloc(), "write 7")?;
-    stops(rt.alloc(), "write 6 stop")?;
-    stops(rt.alloc(), "write 7 stop")?;
-    stops(rt.alloc(), "write 8 stop")
+    fails(rt.alloc(), "write 8")?;
+    fails(rt.alloc(), "write 9")?;
+    stops(rt.alloc(), "write 8 stop")?;
+    stops(rt.alloc(), "write 9 stop")?;
+    stops(rt.alloc(), "write 10 stop")
 }

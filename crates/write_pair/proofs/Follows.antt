@@ -1,11 +1,12 @@
 -- What the second server does.
-use Rattle.std.proofs.Common.{◌≡◌, ℕ, ◌+◌, Bool, true, false, List, Some, None, Result, Ok, Err, refl, sym, subst, ap, ◌∙◌}
+use Rattle.std.proofs.Common.{◌≡◌, ℕ, ◌+◌, Bool, true, false, List, Option, Some, None, Result, Ok, Err, refl, sym, subst, ap, ◌∙◌}
 use Rattle.std.specs.Prelude.{if◌then◌else◌}
 use Rattle.std.specs.List.Sorted.{IsStrictlySortedBy}
 use Rattle.std.specs.Map.{keys_of}
 use Rattle.petal_base.specs.declared.cell.Cell.{Cell}
 use Rattle.petal_base.specs.declared.cell.Key.{Key}
 use Rattle.petal_base.specs.Cells.{cell_of}
+use Rattle.petal_base.specs.Origins.{Named}
 use Rattle.petal_disk.specs.declared.disk.Disk.{Ghosts}
 use Rattle.petal_table.specs.Table.{Table, at, put, without}
 use Rattle.petal_msg.specs.declared.body.Body.TheVariants as body
@@ -15,7 +16,7 @@ use Rattle.petal_msg.specs.declared.operation.LastOp.{LastOp}
 use Rattle.petal_msg.specs.declared.operation.Pending.{Pending}
 use Rattle.spec_rules.specs.State.{first, is_second}
 use Rattle.spec_rules.specs.Server.{PairState, JobContext, JobResult, silent, says_to, sender, letters_of, post_to}
-use Rattle.spec_rules.specs.Store.{Store, cell_cmp, chain_in, version_of, with_entry}
+use Rattle.spec_rules.specs.Store.{Store, cell_cmp, chain_in, version_of, with_put}
 use Rattle.spec_rules.specs.Writes.{follows, hears_reserve, last_on, on_reserve, reserves, tells, with_last}
 use Rattle.spec_rules.proofs.CellTables.{cell_cmp_total}
 use Rattle.server_store.specs.Holdings.{Holdings}
@@ -39,10 +40,10 @@ abbrev pub replicated : ℕ → LastOp
 replicated number = record { op = number; progress = follow_progress.Replicated }
 
 -- what the second server leaves that put its copy, at the cell of the key
-abbrev pub follows_in : JobContext → PairState → ℕ → Key → List ℕ → Cell → JobResult
-follows_in here own number key bytes cell =
+abbrev pub follows_in : JobContext → PairState → ℕ → Key → Option Named → List ℕ → Cell → JobResult
+follows_in here own number key origin bytes cell =
     says_to
-    (with_last (record own { store = with_entry own.store key (record { version = version_of (chain_in own.store.chains cell) + 1; bytes = bytes }) })
+    (with_last (record own { store = with_put own.store key (record { version = version_of (chain_in own.store.chains cell) + 1; bytes = bytes }) origin })
     cell number follow_progress.Replicated)
     (first here.state cell) (body.Replicated number cell)
 
@@ -100,13 +101,13 @@ module _ {D : Type 0} (here : JobContext) (side : PairMemory) (store : Holdings 
       let back_is = apart_back apart back slot has is gone in
       all_same here side (record side { last = last; apart = back }) store after rule (λ i. record side { last = same i; apart = back_is i }) held
 
-  pub follows_done : (key : Key) (bytes : List ℕ) (last : Table Cell LastOp) (apart : Table Cell ℕ) (after : Holdings D) (version : ℕ) (done : Left)
-      → last ≡ put cell_cmp side.last cell (replicated number)
+  pub follows_done : (key : Key) (origin : Option Named) (bytes : List ℕ) (last : Table Cell LastOp) (apart : Table Cell ℕ) (after : Holdings D)
+      (version : ℕ) (done : Left) → last ≡ put cell_cmp side.last cell (replicated number)
       → version ≡ version_of (chain_in (chains_of store.entries) cell) + 1
-      → store_of after ≡ with_entry (store_of store) key (record { version = version; bytes = bytes })
+      → store_of after ≡ with_put (store_of store) key (record { version = version; bytes = bytes }) origin
       → done ≡ only (letters_of (sender here) 0 (post_to (first here.state cell) (body.Replicated number cell)))
-      → IsBy here (own_of (record side { last = last; apart = apart }) after) done (follows_in here (own_of side store) number key bytes cell)
-  follows_done key bytes last apart after version done table counted kept said =
+      → IsBy here (own_of (record side { last = last; apart = apart }) after) done (follows_in here (own_of side store) number key origin bytes cell)
+  follows_done key origin bytes last apart after version done table counted kept said =
       rw (table, said) (record {
         own = ap (λ (s : Store). record {
           pairs = pairs_of (record side { last = put cell_cmp side.last cell (replicated number) });
@@ -114,17 +115,18 @@ module _ {D : Type 0} (here : JobContext) (side : PairMemory) (store : Holdings 
           filled = side.filled;
           store = s;
         })
-            (kept ∙ ap (λ (v : ℕ). with_entry (store_of store) key (record { version = v; bytes = bytes })) counted);
+            (kept ∙ ap (λ (v : ℕ). with_put (store_of store) key (record { version = v; bytes = bytes }) origin) counted);
         letters = refl;
         jobs = refl;
       })
 
   -- the cell of a key, where it has a name of its own
-  pub at_key : (device : Ghosts D) (new : PairMemory) (after : Holdings D) (answer : Result Left WorkError) (key : Key) (bytes : List ℕ) → cell ≡ cell_of key
-      → IsDone device here (held side store) (held new after) answer (follows_in here (own_of side store) number key bytes cell)
-      → IsDone device here (held side store) (held new after) answer (follows here (own_of side store) number key bytes)
-  at_key device new after answer key bytes is done =
-      subst (λ (c : Cell). IsDone device here (held side store) (held new after) answer (follows_in here (own_of side store) number key bytes c)) is done
+  pub at_key : (device : Ghosts D) (new : PairMemory) (after : Holdings D) (answer : Result Left WorkError) (key : Key) (origin : Option Named) (bytes : List ℕ)
+      → cell ≡ cell_of key
+      → IsDone device here (held side store) (held new after) answer (follows_in here (own_of side store) number key origin bytes cell)
+      → IsDone device here (held side store) (held new after) answer (follows here (own_of side store) number key origin bytes)
+  at_key device new after answer key origin bytes is done =
+      subst (λ (c : Cell). IsDone device here (held side store) (held new after) answer (follows_in here (own_of side store) number key origin bytes c)) is done
 
 -- the tickets once the copy is put in its slot
 pub follows_keeps : (pending : Table Cell Pending) (was last : Table Cell LastOp) (own before apart : Table Cell ℕ) (tickets left : List ℕ) (cell : Cell)

@@ -3,4 +3,5 @@ pub mod Moves
 pub mod Leads
 pub mod Opens
 pub mod Begun
+pub mod Refused
 pub mod Follows

@@ -16,8 +16,9 @@ use Rattle.petal_msg.specs.declared.operation.Stage.{Stage}
 use Rattle.spec_rules.specs.declared.job.Job.TheVariants as job
 use Rattle.spec_rules.specs.Server.{PairState, JobContext, Post, silent, sender, letters_of}
 use Rattle.spec_rules.specs.Server.{JobResult as Rule}
-use Rattle.spec_rules.specs.Store.{Store, cell_cmp, chain_in, version_of, with_entry}
-use Rattle.spec_rules.specs.Writes.{acts, ends, gives_back, goes_on, goes_on_with, next_stage, with_flag, with_mark_at, with_pending, without_pending}
+use Rattle.spec_rules.specs.Store.{Store, cell_cmp, chain_in, version_of, with_put}
+use Rattle.spec_rules.specs.Writes.{acts, ends, gives_back, goes_on, goes_on_with, next_stage, origin_by, with_flag, with_mark_at, with_pending}
+use Rattle.spec_rules.specs.Writes.{without_pending}
 use Rattle.spec_rules.proofs.CellTables.{cell_cmp_total}
 use Rattle.pair_lock.specs.Pairs.{staged, at_stage, at_version, versioned}
 use Rattle.server_store.specs.Holdings.{Holdings}
@@ -146,16 +147,16 @@ module _ {D : Type 0} (here : JobContext) (side : PairMemory) (store : Holdings 
   pub puts_done : (new : Table Cell Pending) (own : Table Cell ℕ) (after : Holdings D) (version : ℕ) (done : JobResult)
       → new ≡ versioned side.pending op.cell version (record op.stage { put = true }) (at cell_cmp side.pending op.cell)
       → version ≡ version_of (chain_in (chains_of store.entries) op.cell) + 1
-      → store_of after ≡ with_entry (store_of store) op.key (record { version = version; bytes = op.bytes })
+      → store_of after ≡ with_put (store_of store) op.key (record { version = version; bytes = op.bytes }) (origin_by here.state op)
       → done ≡ record { letters = []; follow = Some (follow.Stage op.cell) }
       → IsBy here (own_of (record side { pending = new; own = own }) after) done (acts here (with_pending (own_of side store) op) op action.Put)
   puts_done new own after version done table counted kept is =
       let next = version_of (chain_in (chains_of store.entries) op.cell) + 1 in
-      let entry_store = with_entry (store_of store) op.key (record { version = next; bytes = op.bytes }) in
+      let entry_store = with_put (store_of store) op.key (record { version = next; bytes = op.bytes }) (origin_by here.state op) in
       rw (table ∙ put_is version, is) (record {
         own = ap (put_own (put cell_cmp side.pending op.cell (put_at version))) kept
             ∙ ap (λ (v : ℕ). put_own (put cell_cmp side.pending op.cell (put_at v))
-            (with_entry (store_of store) op.key (record { version = v; bytes = op.bytes }))) counted
+            (with_put (store_of store) op.key (record { version = v; bytes = op.bytes }) (origin_by here.state op))) counted
             ∙ ap (λ (t : Table Cell Pending). put_own t entry_store) (sym (put_over cell_cmp cell_cmp_total side.pending op.cell op (put_at next)));
         letters = refl;
         jobs = refl;
@@ -209,6 +210,7 @@ module _ {D : Type 0} (here : JobContext) (side : PairMemory) (store : Holdings 
     still = λ no. absurd (cc);
     same = λ no. absurd (cc);
     kept = tt;
+    stays = tt;
     full = λ no. absurd (cc);
     spent = λ no. absurd (cc);
     cause = record { later = commit.cause.later; failed = λ no. absurd (cc) };

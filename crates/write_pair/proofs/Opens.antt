@@ -1,6 +1,6 @@
 -- An operation that is opened.
-use Rattle.std.proofs.Common.{◌≡◌, ◌+◌, ℕ, Bool, true, false, List, length, Option, Some, None, IsSome, refl, sym, subst, ap, ◌∙◌, arith}
-use Rattle.std.proofs.Common.{Result, Ok, Err, OnErr, IsErr, IsErrAnd}
+use Rattle.std.proofs.Common.{◌≡◌, ◌+◌, ℕ, Bool, true, false, List, Option, Some, None, IsSome, refl, sym, subst, ap, ◌∙◌, arith}
+use Rattle.std.proofs.Common.{Result, Err, OnErr}
 use Rattle.std.specs.Prelude.{if◌then◌else◌}
 use Rattle.petal_base.specs.declared.cell.Cell.{Cell}
 use Rattle.petal_disk.specs.Disk.{LeavesOnly}
@@ -8,35 +8,30 @@ use Rattle.petal_disk.specs.declared.disk.Disk.{Ghosts}
 use Rattle.petal_table.specs.Table.{Table, at, put, without}
 use Rattle.spec_rules.specs.Server.{JobContext, PairState}
 use Rattle.spec_rules.specs.Server.{JobResult as Rule}
-use Rattle.spec_rules.specs.Store.{Store, cell_cmp}
+use Rattle.spec_rules.specs.Store.{Store, cell_cmp, marked_by}
 use Rattle.petal_msg.specs.declared.operation.Action.{Action}
 use Rattle.petal_msg.specs.declared.operation.Action.TheVariants as action
 use Rattle.petal_msg.specs.declared.operation.Ending.{Ending}
-use Rattle.petal_msg.specs.declared.operation.Ending.TheVariants.{Written}
+use Rattle.petal_msg.specs.declared.operation.Ending.TheVariants.{Full, Written}
 use Rattle.petal_msg.specs.declared.operation.OpKind.{OpKind}
 use Rattle.petal_msg.specs.declared.operation.OpKind.TheVariants as kind
 use Rattle.petal_msg.specs.declared.operation.Pending.{Pending}
 use Rattle.spec_rules.specs.Writes.{acts, ends, gives_back, goes_on, goes_on_with, next_stage, with_opened, without_pending}
 use Rattle.spec_rules.proofs.CellTables.{cell_cmp_total, cell_same}
-use Rattle.server_store.specs.Holdings.{Holdings}
+use Rattle.server_store.specs.Holdings.{Holdings, kept_in, marked_in}
 use Rattle.server_store.specs.Tickets as lists
 use Rattle.kept_chains.proofs.Puts.{without_new}
 use Rattle.kept_chains.specs.Kept.{store_of}
 use Rattle.kept_chains.specs.Standing.{StandsAsEither}
 use Rattle.pair_memory.specs.declared.job_result.JobResult.{JobResult}
 use Rattle.pair_memory.specs.declared.error.WorkError.{WorkError}
-use Rattle.pair_memory.specs.declared.error.WorkError.TheVariants.{Failed, JournalFull, NoMemory, Exhausted}
-use Rattle.pair_memory.specs.JobResult.{HasFault, HoldsAt, IsDone, IsFull, held}
+use Rattle.pair_memory.specs.declared.error.WorkError.TheVariants.{Failed, NoRoom, NoMemory, Exhausted}
+use Rattle.pair_memory.specs.JobResult.{HasFault, HoldsAt, IsDone, IsFull, IsSaid, held}
 use Rattle.pair_memory.specs.PairMemory.{PairMemory, HasTicketsAt, needs_own, own_of, pairs_of}
 use Rattle.pair_memory.specs.Slots.{IsOutAt}
 use Rattle.pair_memory.proofs.Tickets as tickets
 use Rattle.pair_memory.proofs.Said.{all_same, all_spent, said_done, spent_done}
 use Rattle.write_pair.specs.Opened.{IsOpenError, IsOpened, begun}
-
--- what holds of an error holds of the result that has it
-pub of_error : {T E : Type 0} (P : Result T E → Type 0) (e : E) (result : Result T E) → IsErr result × IsErrAnd result (λ it. it ≡ e) → P (Err e) → P result
-of_error P e (Ok value) is holds = let no = is.0 in absurd (cc)
-of_error P e (Err it) is holds = subst (λ (x : _). P (Err x)) (sym is.1) holds
 
 ends_next : (here : JobContext) (own : PairState) (op : Pending) (kind : OpKind) (ending : Ending)
     → (ends here own op kind ending).own.pairs.next ≡ own.pairs.next
@@ -73,7 +68,7 @@ module _ {D : Type 0} (op : Pending) (side : PairMemory) (store : Holdings D) (h
       → (new : PairMemory) (after : Holdings D) (room : Bool) (e : WorkError) → new ≡ side → after ≡ store → IsOpenError side.next room e
       → IsDone device here (held side store) (held new after) (Err e) (begun here (own_of side store) op room)
   not_opened here device stays only_now new after room Failed same kept why = absurd why
-  not_opened here device stays only_now new after room JournalFull same kept why = absurd why
+  not_opened here device stays only_now new after room NoRoom same kept why = absurd why
   not_opened here device stays only_now new after room NoMemory same kept why =
       said_done device stays only_now here side new store after (Err NoMemory) (begun here (own_of side store) op room)
       (all_same here side new store after (begun here (own_of side store) op room) same kept)
@@ -82,6 +77,17 @@ module _ {D : Type 0} (op : Pending) (side : PairMemory) (store : Holdings D) (h
       let over = why.0 in
       spent_done device stays only_now here side new store after (begun here (own_of side store) op room)
       (all_spent device stays only_now side new store after (begun here (own_of side store) op room) same kept (omega (arith, next, over))) kept
+
+  -- no slot was free for it, and what it is for ended
+  pub unopened_done : (here : JobContext) (device : Ghosts D) → ((d : D) → device.came_to d d)
+      → ((d : D) (c : List ℕ) → device.left_since d (device.moment d) c → device.may_leave d c)
+      → (mid last : PairMemory) (left : Holdings D) (result : Result JobResult WorkError) (room : Bool) → room ≡ false → mid ≡ side → left ≡ store
+      → IsSaid here mid last left left result (ends here (own_of mid left) op op.kind Full)
+      → IsDone device here (held side store) (held last left) result (begun here (own_of side store) op room)
+  unopened_done here device stays only_now mid last left result room full same kept said =
+      let at_side = subst (λ (s : PairMemory). IsSaid here s last left left result (ends here (own_of s left) op op.kind Full)) same said in
+      let at_store = subst (λ (s : Holdings D). IsSaid here side last s left result (ends here (own_of side s) op op.kind Full)) kept at_side in
+      rw full (said_done device stays only_now here side last store left result (ends here (own_of side store) op op.kind Full) at_store)
 
   own_none : at cell_cmp side.own op.cell ≡ None
   own_none = tickets.own_none side.pending side.last side.own side.apart store.tickets h op.cell (ap needs_own none)
@@ -133,25 +139,22 @@ module _ {D : Type 0} (op : Pending) (side : PairMemory) (store : Holdings D) (h
         ∙ ap (λ (s : Store). record { pairs = (with_opened (own_of side store) op).pairs; copies = side.copies; filled = side.filled; store = s })
         (tickets.kept_is store after opened.slot opened.store)
 
-    -- the journal had no room for the record of its first stage, and it is taken back
+    -- there was no room for the mark of its first stage, and it is taken back
     pub full_back : (here : JobContext) (mid last : PairMemory) (held left : Holdings D) (room : Bool) → room ≡ true
         → IsFull new mid after held (goes_on here (own_of new after) op.cell)
         → last ≡ record mid { next = side.next; pending = without cell_cmp mid.pending op.cell; own = without cell_cmp mid.own op.cell }
         → ((slot : ℕ) → at cell_cmp mid.own op.cell ≡ Some slot → left ≡ record held { tickets = lists.without held.tickets slot })
         → IsFull side last store left (begun here (own_of side store) op room)
     full_back here mid last held left room is full side_is store_is = record {
-      count = ap (λ (s : Holdings D). s.log.region.count) (sym opened.store) ∙ full.count;
-      over = rw is (
-          ap (λ (own : PairState). (goes_on here own op.cell).own.store.records) (sym opened_is) ∙ full.over
-          ∙ ap (λ (s : Holdings D). length s.log.records + 1) opened.store
-          );
+      count = ap (λ (s : Holdings D). marked_in s) (sym opened.store) ∙ full.count;
+      over = rw is (ap (λ (own : PairState). marked_by (goes_on here own op.cell).own.store) (sym opened_is) ∙ full.over);
       same = (side_back mid held full.same.0 full.same.1 last side_is, store_back mid held full.same.0 full.same.1 left store_is);
     }
 
     -- what its first stage leaves, as seen from before it was opened; unless that was refused, as it is taken back then
     pub opened_done : (here : JobContext) (device : Ghosts D) (last : PairMemory) (left : Holdings D) (result : Result JobResult WorkError) (room : Bool)
         → room ≡ true
-        → ¬ (result ≡ Err NoMemory) → ¬ (result ≡ Err JournalFull) → ¬ (result ≡ Err Exhausted)
+        → ¬ (result ≡ Err NoMemory) → ¬ (result ≡ Err NoRoom) → ¬ (result ≡ Err Exhausted)
         → IsDone device here (held new after) (held last left) result (goes_on here (own_of new after) op.cell)
         → IsDone device here (held side store) (held last left) result (begun here (own_of side store) op room)
     opened_done here device last left result room is memory full spent stage =
@@ -162,11 +165,12 @@ module _ {D : Type 0} (op : Pending) (side : PairMemory) (store : Holdings D) (h
           holds = λ told holds. stage.holds told (subst (HoldsAt device) (sym opened.store) holds);
           moments = λ told holds.
               subst (λ (s : Holdings D). LeavesOnly device.moment device.left_since s.disk left.disk
-              (StandsAsEither (store_of s) (goes_on here (own_of new after) op.cell).own.store)) opened.store
+              (StandsAsEither s (goes_on here (own_of new after) op.cell).own.store)) opened.store
               (stage.moments told (subst (HoldsAt device) (sym opened.store) holds));
           still = λ no. absurd (memory no);
           same = λ no. absurd (memory no);
           kept = subst (λ (s : Holdings D). OnErr result (device.observable → left.entries ≡ s.entries)) opened.store stage.kept;
+          stays = subst (λ (s : Holdings D). OnErr result (kept_in left ≡ kept_in s)) opened.store stage.stays;
           full = λ no. absurd (full no);
           spent = λ no. absurd (spent no);
           cause = subst (λ (s : Holdings D). HasFault (device.faults s.disk) (device.faults left.disk) result) opened.store stage.cause;

@@ -10,7 +10,7 @@ use Rattle.spec_rules.specs.World.{greatest_u64}
 use Rattle.server_store.specs.Holdings.{Holdings}
 use Rattle.pair_memory.specs.PairMemory.{PairMemory}
 use Rattle.pair_memory.specs.declared.error.WorkError.{WorkError}
-use Rattle.pair_memory.specs.declared.error.WorkError.TheVariants.{Failed, JournalFull, NoMemory, Exhausted}
+use Rattle.pair_memory.specs.declared.error.WorkError.TheVariants.{Failed, NoRoom, NoMemory, Exhausted}
 
 -- a slot of its own is set apart for it, and it is pending
 pub record IsOpened {D : Type 0} (op : Pending) (old new : PairMemory) (before after : Holdings D) : Type 0 where
@@ -26,7 +26,7 @@ pub record IsOpened {D : Type 0} (op : Pending) (old new : PairMemory) (before a
 -- why it is not opened: for memory, or since no number is left for it, though a slot is free
 abbrev pub IsOpenError : (next : ℕ) → (room : Bool) → WorkError → Type 0
 IsOpenError next room Failed = ⊥
-IsOpenError next room JournalFull = ⊥
+IsOpenError next room NoRoom = ⊥
 IsOpenError next room NoMemory = ⊤
 IsOpenError next room Exhausted = (greatest_u64 < next + 1) × (room ≡ true)
 

@@ -17,8 +17,8 @@ use server_store::Store;
 /// What a letter of writes does: at most one commit. After Ok all is as the rule `handles` says, where the device tells its bytes.
 ///
 /// # Errors
-/// `NoMemory`, and then nothing changed; `Failed` where the device failed, and `JournalFull` only where the store's journal had
-/// all its records: the entries are as they were, and the server is to be stopped.
+/// `NoMemory`, and then nothing changed; `Failed` where the device failed, and `NoRoom` only where marks and rows of the store
+/// were as many as there may be: the entries are as they were, and the server is to be stopped.
 #[tactic(auto, unfolding(spec_rules::specs::Jobs::handles))]
 pub fn on_letter<D: Disk>(
     here: &JobContext,
@@ -56,8 +56,9 @@ pub fn on_letter<D: Disk>(
             op,
             key,
             version: _,
+            origin,
             bytes,
-        } => on_replicate(here, side, store, *op, *key, bytes),
+        } => on_replicate(here, side, store, *op, *key, *origin, bytes),
         Body::Replicated { op, cell } => on_replicated(here, side, store, *op, *cell),
         _ => silent(here, side, store),
     }

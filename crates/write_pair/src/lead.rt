@@ -5,6 +5,7 @@ mod actions;
 mod end;
 mod fill;
 mod open;
+mod origin;
 mod replies;
 mod resend;
 mod stage;

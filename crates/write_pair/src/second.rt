@@ -18,7 +18,7 @@ use kept_chains::next_version;
 use pair_memory::{
     JobContext, JobResult, PairMemory, WorkError, give_back, keep, only, say_to, silent, spend,
 };
-use petal_base::{Cell, Key, NoMemory, Op, Sequence, SharedBlock};
+use petal_base::{Cell, Key, NoMemory, Op, Origin, Sequence, SharedBlock};
 use petal_disk::Disk;
 use petal_msg::{Body, FollowProgress, LastOp, Letter};
 use petal_table::Table;
@@ -198,26 +198,31 @@ pub fn on_reserve<D: Disk>(
     }
 }
 
-/// The second server puts its copy in the slot that was set apart, with the version after that of its own chain.
+/// The second server puts its copy in the slot that was set apart, with the version after that of its own chain, for the write that the
+/// lead named. `NoRoom` where there may be no row more for it.
 fn follow<D: Disk>(
     here: &JobContext,
     side: &mut PairMemory,
     store: &mut Store<D>,
     op: Op,
     key: Key,
+    origin: Option<Origin>,
     bytes: &SharedBlock,
 ) -> Result<JobResult, WorkError>
     requires ready { IsReady side.old store.old }
     requires has { needs_apart (at cell_cmp side.old.last (cell_of key)) ≡ true }
     ensures job { IsDone D.Disk here.now (held side.old store.old) (held side.new store.new) result
-        (writes.follows here.now (own_of side.old store.old) op key bytes.now) }
+        (writes.follows here.now (own_of side.old store.old) op key origin bytes.now) }
     ensures same { result ≡ Err error.NoMemory → store.new ≡ store.old }
 {
+    if !store.has_room_for(key.map, &origin) {
+        return Err(WorkError::NoRoom);
+    }
     let cell = key.cell();
     let body = Body::Replicated { op, cell };
     let letters = here.say_to(here.first(cell), body)?;
     let version = next_version(store, cell);
-    spend(&mut side.apart, store, cell, key, version, bytes)?;
+    spend(&mut side.apart, store, cell, key, version, bytes, origin)?;
     let last = LastOp {
         op,
         progress: FollowProgress::Replicated,
@@ -229,8 +234,8 @@ fn follow<D: Disk>(
 /// A copy is put once, and only for the number whose slot was set apart; an equal number is answered again.
 ///
 /// # Errors
-/// `NoMemory`, and then nothing changed; `Failed` where the device failed, and `JournalFull` only where the store's journal had
-/// all its records: the entries are as they were, and the server is to be stopped.
+/// `NoMemory`, and then nothing changed; `Failed` where the device failed, and `NoRoom` only where marks and rows of the store
+/// were as many as there may be: the entries are as they were, and the server is to be stopped.
 #[tactic(auto, unfolding(spec_rules::specs::Writes::on_replicate))]
 pub fn on_replicate<D: Disk>(
     here: &JobContext,
@@ -238,11 +243,12 @@ pub fn on_replicate<D: Disk>(
     store: &mut Store<D>,
     op: Op,
     key: Key,
+    origin: Option<Origin>,
     bytes: &SharedBlock,
 ) -> Result<JobResult, WorkError>
     requires ready { IsReady side.old store.old }
     ensures job { IsDone D.Disk here.now (held side.old store.old) (held side.new store.new) result
-        (writes.on_replicate here.now (own_of side.old store.old) op key bytes.now) }
+        (writes.on_replicate here.now (own_of side.old store.old) op key origin bytes.now) }
     ensures same { result ≡ Err error.NoMemory → store.new ≡ store.old }
 {
     let cell = key.cell();
@@ -251,7 +257,7 @@ pub fn on_replicate<D: Disk>(
     }
     match side.last_on(cell) {
         Some(last) if op == last.op => match last.progress {
-            FollowProgress::Reserved => follow(here, side, store, op, key, bytes),
+            FollowProgress::Reserved => follow(here, side, store, op, key, origin, bytes),
             FollowProgress::Replicated => tell(here, side, store, cell, op, last.progress),
         },
         _ => silent(here, side, store),

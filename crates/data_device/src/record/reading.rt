@@ -1,18 +1,20 @@
 //! From bytes to the record that they spell. What is read is written once more and compared, so that bytes which spell
 //! nothing are told by the comparison.
 
-ghost use Rattle.std.specs.Prelude.{◌≡◌, ℕ, Some, length, IfSome};
+ghost use Rattle.std.specs.Prelude.{◌≡◌, ◌<◌, ℕ, Option, Some, length, IfSome};
 ghost use Rattle.busy_marks.specs.declared.marks.MarkKind.{MarkKind};
 ghost use Rattle.petal_base.specs.declared.cell.Cell.{Cell};
 ghost use Rattle.petal_base.specs.declared.cell.Key.{Key};
+ghost use Rattle.petal_base.specs.Limits.{client_limit};
+ghost use Rattle.petal_base.specs.Origins.{Named};
 ghost use Rattle.data_device.specs.Spelling.{spelling, HasSpelling};
 ghost use Rattle.data_device.specs.declared.record.StoreRecord.{StoreRecord};
-ghost use Rattle.data_device.specs.declared.record.StoreRecord.TheVariants.{Put, Drop, Mark, Unmark, Settled};
+ghost use Rattle.data_device.specs.declared.record.StoreRecord.TheVariants.{Put, Drop, Mark, Unmark, Settled, Forget, Done};
 
 use crate::record::writing::encode;
 use crate::record::{RECORD_BYTES, StoreRecord};
 use busy_marks::MarkKind;
-use petal_base::{Cell, Key};
+use petal_base::{Cell, Key, OPERATOR, Origin};
 use record_fields::{long_at, word_at};
 
 /// The record that the bytes spell; None exactly where they spell none.
@@ -42,6 +44,8 @@ fn read(bytes: &[u8]) -> Option<StoreRecord>
         3 => Some(read_mark(bytes)),
         4 => Some(read_unmark(bytes)),
         5 => Some(StoreRecord::Settled),
+        7 => Some(read_forget(bytes)),
+        8 => read_done(bytes),
         _ => None,
     }
 }
@@ -59,7 +63,8 @@ fn cell_at(bytes: &[u8]) -> Cell
 
 fn key_at(bytes: &[u8]) -> Key
     requires { length bytes.now ≡ 63 }
-    ensures put { (key : Key) (version slot : ℕ) → HasSpelling (Put key version slot) → bytes.now ≡ spelling (Put key version slot) → result ≡ key }
+    ensures put { (key : Key) (version slot : ℕ) (origin : Option Named) → HasSpelling (Put key version slot origin)
+        → bytes.now ≡ spelling (Put key version slot origin) → result ≡ key }
     ensures drop { (key : Key) → HasSpelling (Drop key) → bytes.now ≡ spelling (Drop key) → result ≡ key }
 {
     Key {
@@ -80,15 +85,39 @@ fn kind_at(bytes: &[u8]) -> MarkKind
     }
 }
 
+// The write of a client with this number; None where it is none of a script's.
+fn origin_of(link: u8, client: u8, seq: u32) -> Option<Origin>
+    ensures { client < client_limit → result ≡ Some (record { link = link; client = client; seq = seq }) }
+{
+    if client < OPERATOR {
+        Some(Origin::new(link, client, seq))
+    } else {
+        None
+    }
+}
+
+// The write that a put is for, if it is for one.
+fn origin_at(bytes: &[u8]) -> Option<Origin>
+    requires { length bytes.now ≡ 63 }
+    ensures { (key : Key) (version slot : ℕ) (origin : Option Named) → HasSpelling (Put key version slot origin)
+        → bytes.now ≡ spelling (Put key version slot origin) → result ≡ origin }
+{
+    if bytes[30] == 0 {
+        return None;
+    }
+    origin_of(bytes[35], bytes[30] - 1, word_at(bytes, 31))
+}
+
 fn read_put(bytes: &[u8]) -> StoreRecord
     requires { length bytes.now ≡ 63 }
-    ensures { (key : Key) (version slot : ℕ) → HasSpelling (Put key version slot) → bytes.now ≡ spelling (Put key version slot)
-        → result ≡ Put key version slot }
+    ensures { (key : Key) (version slot : ℕ) (origin : Option Named) → HasSpelling (Put key version slot origin)
+        → bytes.now ≡ spelling (Put key version slot origin) → result ≡ Put key version slot origin }
 {
     StoreRecord::Put {
         key: key_at(bytes),
         version: long_at(bytes, 17),
         slot: word_at(bytes, 25),
+        origin: origin_at(bytes),
     }
 }
 
@@ -117,4 +146,24 @@ fn read_unmark(bytes: &[u8]) -> StoreRecord
         kind: kind_at(bytes),
         cell: cell_at(bytes),
     }
+}
+
+fn read_forget(bytes: &[u8]) -> StoreRecord
+    requires { length bytes.now ≡ 63 }
+    ensures { (map link : ℕ) → HasSpelling (Forget map link) → bytes.now ≡ spelling (Forget map link) → result ≡ Forget map link }
+{
+    StoreRecord::Forget {
+        map: word_at(bytes, 1),
+        link: bytes[5],
+    }
+}
+
+fn read_done(bytes: &[u8]) -> Option<StoreRecord>
+    requires { length bytes.now ≡ 63 }
+    ensures { (map : ℕ) (origin : Named) → HasSpelling (Done map origin) → bytes.now ≡ spelling (Done map origin) → result ≡ Some (Done map origin) }
+{
+    Some(StoreRecord::Done {
+        map: word_at(bytes, 1),
+        origin: origin_of(bytes[5], bytes[6], word_at(bytes, 7))?,
+    })
 }

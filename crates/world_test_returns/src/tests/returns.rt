@@ -1,7 +1,7 @@
 //! A server of a link returns, and the other one, which holds the link alone, brings it up to date: schedules in which a rule that
 //! is left out would be seen in what is answered.
 
-use memory_runs::{Parts, play_parts};
+use memory_runs::{Parts, play_parts, play_steps};
 use std::test::Fail;
 
 // Of three servers, servers 0 and 1 have block 0, and server 0 leads it.
@@ -161,4 +161,16 @@ const RETURNS: &[Parts] = &[
 #[test]
 fn servers_return(rt: HostRuntime) -> Result<(), Fail> {
     play_parts(rt.alloc(), RETURNS)
+}
+
+#[test]
+fn a_copied_entry_that_is_there_needs_no_slot(rt: HostRuntime) -> Result<(), Fail> {
+    play_steps(
+        rt.alloc(),
+        "a block whose mark outlived its write is copied to the server that has it, and all slots are in use",
+        "servers 3 slots 1\na disk vol on 0 1\nwait\na write vol 0 fill 7\nop stop 0\nop start 0\nop settle\nop stop 1\nwait\nb read vol 0\n",
+        "a calls 2; agree; wait; a calls 4; write a>0; 0 works; reserve 0>1; 1 works; reserved 1>0; 0 works off; replicate 0>1; 1 works;
+        replicated 1>0; 0 works off; written 0>a; line 4 ok; 0 marks 0 0; op calls 5; 0 stops; 0 shows 5; seen 0>op; line 5 ok; agree without 0;
+        op calls 6; 0 boots; 0 shows 6; seen 0>op; line 6 ok; play out; line 7 ok; sent 1 synced 0>1; line 10 fill 7",
+    )
 }

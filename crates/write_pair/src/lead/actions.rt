@@ -8,6 +8,7 @@ ghost use Rattle.pair_memory.specs.PairMemory.{own_of, HasTicketsAt};
 ghost use Rattle.pair_memory.specs.JobResult.{IsDone, IsReady, IsSaid, held};
 ghost use Rattle.write_pair.specs.Moved.{IsMoved};
 
+use crate::lead::origin::origin_by;
 use crate::lead::stage::next_stage;
 use crate::lead::stages::{answer, drop_operation, flags, put_own, wait};
 use pair_memory::{JobContext, JobResult, PairMemory, WorkError, silent};
@@ -51,6 +52,7 @@ fn replicate<D: Disk>(
         op: op.op,
         key: op.key,
         version: op.version,
+        origin: origin_by(here, op),
         bytes: op.bytes.share()?,
     };
     wait(here, side, store, op, body)
@@ -84,8 +86,8 @@ pub fn act<D: Disk>(
 /// The operation that is pending on the cell does its next stage, with at most one commit to the store.
 ///
 /// # Errors
-/// `NoMemory`, and then nothing changed; `Failed` where the device failed, and `JournalFull` only where the store's journal had
-/// all its records: the entries are as they were, and the server is to be stopped.
+/// `NoMemory`, and then nothing changed; `Failed` where the device failed, and `NoRoom` only where marks and rows of the store
+/// were as many as there may be: the entries are as they were, and the server is to be stopped.
 pub fn go_on<D: Disk>(
     here: &JobContext,
     side: &mut PairMemory,

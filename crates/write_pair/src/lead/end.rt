@@ -34,7 +34,7 @@ pub fn end<D: Disk>(
         (writes.ends here.now (own_of side.old store.now) op.now op.now.kind ending) }
 {
     match op.kind {
-        OpKind::Write => finish(here, side, store, op.client, op.seq, ending),
+        OpKind::Write => finish(here, side, store, op.client.get(), op.seq, ending),
         OpKind::Fill => say_to(
             here,
             side,

@@ -19,7 +19,7 @@ use pair_lock::{OpKind, Pending};
 use pair_memory::{JobContext, JobResult, PairMemory, WorkError, say_to, silent};
 use petal_base::{Key, NoMemory, Op, SharedBlock};
 use petal_disk::Disk;
-use petal_msg::Body;
+use petal_msg::{Body, WriterNumber};
 use server_store::Store;
 
 /// An entry that moves, as its letter has it.
@@ -40,7 +40,7 @@ fn fill_operation(here: &JobContext, op: Op, entry: &Moving) -> Result<Pending, 
         key: entry.key,
         version: 0,
         stage: first_stage(),
-        client: 0,
+        client: WriterNumber::new(0),
         seq: 0,
         rev: here.rev(),
         bytes: entry.bytes.share()?,

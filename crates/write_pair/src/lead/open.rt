@@ -106,9 +106,9 @@ pub fn open<D: Disk>(
             take_back(side, store, op.cell, number);
             Err(WorkError::NoMemory)
         }
-        Err(WorkError::JournalFull) => {
+        Err(WorkError::NoRoom) => {
             take_back(side, store, op.cell, number);
-            Err(WorkError::JournalFull)
+            Err(WorkError::NoRoom)
         }
         Err(WorkError::Failed) => Err(WorkError::Failed),
         Err(WorkError::Exhausted) => Err(WorkError::Exhausted),

@@ -6,6 +6,7 @@ ghost use Rattle.spec_rules.specs.Server.{PairState, letters_of, sender};
 ghost use Rattle.spec_rules.specs.Jobs.{sent_again};
 ghost use Rattle.pair_memory.specs.Letters.{posts_of};
 
+use crate::lead::origin::origin_by;
 use crate::lead::stage::next_stage;
 use pair_lock::PairLock;
 use pair_memory::{JobContext, PairMemory, with_letter};
@@ -29,6 +30,7 @@ fn awaited(here: &JobContext, op: &Pending) -> Result<Option<(ServerId, Body)>, 
                 op: op.op,
                 key: op.key,
                 version: op.version,
+                origin: origin_by(here, op),
                 bytes: op.bytes.share()?,
             };
             Ok(Some((to, body)))

@@ -15,6 +15,7 @@ ghost use Rattle.write_pair.specs.Flagged.{flags, with_mark_as};
 ghost use Rattle.write_pair.specs.Moved.{IsMoved};
 
 use crate::lead::end::end;
+use crate::lead::origin::origin_by;
 use busy_marks::MarkKind;
 use kept_chains::{mark, next_version, unmark};
 use pair_memory::{FollowUp, JobContext, JobResult, PairMemory, WorkError, give_back, only, spend};
@@ -147,7 +148,7 @@ fn put_stage(stage: &Stage) -> Stage
     }
 }
 
-/// The lead puts its own copy, with the version after that of its chain.
+/// The lead puts its own copy, with the version after that of its chain. `NoRoom` where there may be no row more for its write.
 pub fn put_own<D: Disk>(
     here: &JobContext,
     side: &mut PairMemory,
@@ -162,8 +163,20 @@ pub fn put_own<D: Disk>(
     ensures same { result ≡ Err error.NoMemory → store.new ≡ store.old }
     ensures unspent { ¬ (result ≡ Err error.Exhausted) }
 {
+    let origin = origin_by(here, op);
+    if !store.has_room_for(op.key.map, &origin) {
+        return Err(WorkError::NoRoom);
+    }
     let version = next_version(store, op.cell);
-    spend(&mut side.own, store, op.cell, op.key, version, &op.bytes)?;
+    spend(
+        &mut side.own,
+        store,
+        op.cell,
+        op.key,
+        version,
+        &op.bytes,
+        origin,
+    )?;
     side.locks.set_put(op.cell, version, put_stage(&op.stage));
     Ok(follow_up(here, op.cell))
 }

@@ -1,6 +1,9 @@
 //! A client's write at the lead.
 
-ghost use Rattle.std.specs.Prelude.{◌≡◌, ◌||◌, nat_lt, None, Err, IfOk};
+ghost use Rattle.std.specs.Prelude.{◌≡◌, ◌<◌, ◌||◌, nat_lt, None, Err, IfOk};
+ghost use Rattle.std.specs.Bool.{OnTrue};
+ghost use Rattle.petal_base.specs.Limits.{client_limit};
+ghost use Rattle.std.specs.Ordering.{nat_cmp};
 ghost use Rattle.petal_table.specs.Table.{at};
 ghost use Rattle.spec_rules.specs.State as states;
 ghost use Rattle.spec_rules.specs.Store.{cell_cmp, free_of};
@@ -18,9 +21,9 @@ use crate::lead::stage::first_stage;
 use global_state::Hold;
 use pair_lock::{OpKind, Pending, is_clients};
 use pair_memory::{JobContext, JobResult, PairMemory, WorkError, ended, say, silent};
-use petal_base::{Cell, ClientId, Epoch, Key, NoMemory, Op, Seq, SharedBlock};
+use petal_base::{Cell, ClientId, Epoch, Key, NoMemory, OPERATOR, Op, Seq, SharedBlock};
 use petal_disk::Disk;
-use petal_msg::{Actor, Body};
+use petal_msg::{Actor, Body, WriterNumber};
 use server_store::Store;
 
 /// A client's write, as its letter has it.
@@ -35,6 +38,7 @@ pub struct Wanted<'a> {
 
 /// The operation that a write opens.
 fn operation(here: &JobContext, op: Op, want: &Wanted) -> Result<Pending, NoMemory>
+    requires { want.now.client < client_limit }
     ensures { IfOk result (λ pending. pending ≡ writes.operation here.now op (wanted want.now)) }
 {
     Ok(Pending {
@@ -48,7 +52,7 @@ fn operation(here: &JobContext, op: Op, want: &Wanted) -> Result<Pending, NoMemo
         },
         version: 0,
         stage: first_stage(),
-        client: want.client,
+        client: WriterNumber::new(want.client),
         seq: want.seq,
         rev: here.rev(),
         bytes: want.bytes.share()?,
@@ -69,7 +73,7 @@ fn is_pending_for(side: &PairMemory, want: &Wanted) -> bool
     ensures { result ≡ writes.is_pending_for (at cell_cmp side.now.pending want.now.cell) (wanted want.now) }
 {
     match side.locks.get(want.cell) {
-        Some(op) => is_clients(op.kind) && op.client == want.client && op.seq == want.seq,
+        Some(op) => { is_clients(op.kind) && op.client.get() == want.client && op.seq == want.seq }
         None => false,
     }
 }
@@ -89,6 +93,7 @@ fn open_write<D: Disk>(
     want: &Wanted,
 ) -> Result<JobResult, WorkError>
     requires ready { IsReady side.old store.old }
+    requires client { want.now.client < client_limit }
     requires none { at cell_cmp side.old.pending want.now.cell ≡ None }
     ensures job { IsDone D.Disk here.now (held side.old store.old) (held side.new store.new) result
         (begun here.now (own_of side.old store.old) (writes.operation here.now side.old.next (wanted want.now)) (nat_lt 0 (free_of (store_of store.old)))) }
@@ -106,6 +111,7 @@ fn take_newer<D: Disk>(
     want: &Wanted,
 ) -> Result<JobResult, WorkError>
     requires ready { IsReady side.old store.old }
+    requires client { want.now.client < client_limit }
     ensures job { IsDone D.Disk here.now (held side.old store.old) (held side.new store.new) result
         (writes.takes here.now (own_of side.old store.old) (wanted want.now) writes.Newer) }
     ensures same { result ≡ Err error.NoMemory → store.new ≡ store.old }
@@ -123,7 +129,42 @@ fn take_newer<D: Disk>(
     open_write(here, side, store, want)
 }
 
-/// A write is taken by the cell's lead, once.
+/// A write by what its client's last request was that is finished.
+fn take<D: Disk>(
+    here: &JobContext,
+    side: &mut PairMemory,
+    store: &mut Store<D>,
+    want: &Wanted,
+) -> Result<JobResult, WorkError>
+    requires ready { IsReady side.old store.old }
+    requires client { want.now.client < client_limit }
+    ensures job { IsDone D.Disk here.now (held side.old store.old) (held side.new store.new) result
+        (writes.takes here.now (own_of side.old store.old) (wanted want.now)
+        (writes.standing (at nat_cmp side.old.finished want.now.client) want.now.seq)) }
+    ensures same { result ≡ Err error.NoMemory → store.new ≡ store.old }
+{
+    match side.finished_for(want.client) {
+        Some(last) if want.seq < last.seq => silent(here, side, store),
+        Some(last) if want.seq == last.seq => say(
+            here,
+            side,
+            store,
+            Actor::Client(want.client),
+            ended(want.seq, last.ending),
+        ),
+        _ => take_newer(here, side, store, want),
+    }
+}
+
+/// Whether the client is one of those that write.
+fn is_writer(client: ClientId) -> bool
+    ensures value { result ≡ nat_lt client client_limit }
+    ensures below { OnTrue result (client < client_limit) }
+{
+    client < OPERATOR
+}
+
+/// A write is taken by the cell's lead, once; its client is one of those that write.
 ///
 /// # Errors
 /// As of [`go_on`](crate::lead::actions::go_on).
@@ -139,18 +180,9 @@ pub fn on_write<D: Disk>(
         (writes.on_write here.now (own_of side.old store.old) (wanted want.now)) }
     ensures same { result ≡ Err error.NoMemory → store.new ≡ store.old }
 {
-    if !here.is_lead(want.cell) {
-        return silent(here, side, store);
-    }
-    match side.finished_for(want.client) {
-        Some(last) if want.seq < last.seq => silent(here, side, store),
-        Some(last) if want.seq == last.seq => say(
-            here,
-            side,
-            store,
-            Actor::Client(want.client),
-            ended(want.seq, last.ending),
-        ),
-        _ => take_newer(here, side, store, want),
+    if here.is_lead(want.cell) && is_writer(want.client) {
+        take(here, side, store, want)
+    } else {
+        silent(here, side, store)
     }
 }

@@ -2,7 +2,6 @@ use Rattle.std.proofs.Common.{Err, refl, ap, ◌∙◌, arith}
 use Rattle.std.proofs.lemmas.Result.{err_from_is_err_and}
 use Rattle.spec_rules.specs.Server.{letters_of, post_to, sender}
 use Rattle.pair_memory.specs.PairMemory.{PairMemory, own_of}
-use Rattle.pair_memory.specs.declared.error.WorkError.TheVariants.{Exhausted}
 use Rattle.pair_memory.proofs.Viewed.{left_of}
 use Rattle.copy_transfer.proofs.Stages.{begun_is, begun_next}
 use Rattle.copy_transfer.proofs.begin.begin_copy.Goals as goal

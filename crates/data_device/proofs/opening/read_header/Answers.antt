@@ -9,9 +9,9 @@ none_then (Some x) holds serves = tt
 
 pub returns-clause-only : goal.returns-clause-only
 returns-clause-only g c slots fresh =
-    IfSome_then c.fitting.result (c.fitting.ensures.only slots fresh) (λ said only observed lt head. only lt (c.in_ok-read_front.ensures.bytes observed ∙ head))
+    IfSome_then c.fitting.result (c.fitting.ensures.only slots fresh) (λ said only observed few head. only few (c.in_ok-read_front.ensures.bytes observed ∙ head))
 
 pub returns-clause-blank : goal.returns-clause-blank
-returns-clause-blank g c = none_then c.fitting.result c.fitting.ensures.none (λ none observed slots fresh lt head.
-    let here = none slots fresh lt (c.in_ok-read_front.ensures.bytes observed ∙ head) in
+returns-clause-blank g c = none_then c.fitting.result c.fitting.ensures.none (λ none observed slots fresh few head.
+    let here = none slots fresh few (c.in_ok-read_front.ensures.bytes observed ∙ head) in
     omega (arith, here, c.len-size.ensures))

@@ -4,5 +4,4 @@ use Rattle.law_answers.proofs.ReadsLookOnce.{its_look}
 use Rattle.law_answers.proofs.looks.each_read_looks_once.Goals as goal
 
 pub returns : goal.returns
-returns c script records sound rise legal answer number bytes given =
-    its_look (run_of script sound records legal) rise answer number bytes given
+returns c script records sound rise legal answer number bytes given = its_look (run_of script sound records legal) rise answer number bytes given

@@ -18,5 +18,5 @@ pub returns-in-Err : goal.returns-in-Err
 returns-in-Err g c =
     let law = g.met.D.Disk g.world.𝓛 g.world.𝓜 g.world.𝓡 ((λ s x. x), (λ x. x), (λ x. x), λ x. x) in
     entered_failed g.D.Disk law.stays law.only_now c.args.here.now c.args.entry.now c.args.side.now c.cross.new.side c.args.store.now c.cross.new.store
-    c.cross.ensures c.settle.new.store (sym c.is_blank_join.ensures ∙ c.if-not-is_blank_join.false) c.in-Err.field-0 c.in-Err.ensures.errors c.requires.room
-    c.in-Err.ensures.full c.in-Err.ensures.commit
+    c.cross.ensures c.settle.new.store (sym c.is_blank_join.ensures ∙ c.if-not-is_blank_join.false) c.in-Err.field-0 c.in-Err.ensures.errors
+    c.in-Err.ensures.commit

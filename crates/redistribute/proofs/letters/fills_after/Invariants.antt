@@ -1,5 +1,5 @@
 -- The letters so far are those before and those of the links so far, and nothing of the store changed.
-use Rattle.std.proofs.Common.{◌≡◌, ◌+◌, ◌++◌, length, take}
+use Rattle.std.proofs.Common.{◌≡◌, ◌++◌, length, take}
 use Rattle.std.specs.List.{flat_map}
 use Rattle.spec_rules.specs.Fills.{fills_row}
 use Rattle.spec_rules.specs.Server.{letters_of, sender}

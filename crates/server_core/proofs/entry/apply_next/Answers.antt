@@ -1,13 +1,14 @@
 -- The first job that applies an entry, done or refused.
-use Rattle.std.proofs.Common.{◌++◌, Option, Err, refl, ap, ◌∙◌}
+use Rattle.std.proofs.Common.{◌++◌, Option, refl, ap, ◌∙◌}
 use Rattle.server_log.specs.Part.{state_of}
 use Rattle.kept_chains.specs.Kept.{store_of}
 use Rattle.petal_command.specs.declared.command.Command.{Command}
 use Rattle.spec_rules.specs.Crossing.{jobs_by}
 use Rattle.server_core.specs.ServerView.{core_of}
 use Rattle.server_jobs.specs.Wants.{own_in}
-use Rattle.server_core.proofs.Entering.{applied_not, applied_refused, applied_work}
+use Rattle.server_core.proofs.Entering.{applied_not, applied_nothing, applied_work}
 use Rattle.server_core.specs.Work.{IsStoreWork}
+use Rattle.pair_memory.specs.declared.error.WorkError.TheVariants.{NoMemory}
 use Rattle.server_core.proofs.Steps.{of_error}
 use Rattle.server_core.proofs.Works.{apply_first}
 use Rattle.server_core.proofs.entry.apply_next.Goals as goal
@@ -19,10 +20,10 @@ returns-in_err-next g c = λ running.
     let there = apply_first c.args.queue.now.items c.requires.first in
     let law = g.met.D.Disk g.world.𝓛 g.world.𝓜 g.world.𝓡 ((λ s x. x), (λ x. x), (λ x. x), λ x. x) in
     let found = c.in_err-next.ensures in
-    of_error (λ result. IsStoreWork g.D.Disk c.args.state.now.records old new c.args.store.now c.args.store.now result) c.in_err-next.field-0.0
+    of_error (λ result. IsStoreWork g.D.Disk c.args.state.now.records old new c.args.store.now c.args.store.now result) NoMemory
     c.from_residual.result c.from_residual.ensures
-    (applied_refused g.D.Disk c.args.state.now.records old c.args.store.now there law.stays law.only_now
-    new (ap (core_of running old.log old.side) found.same) c.in_err-next.field-0.0 found.err (λ is. found.full (ap Err is)))
+    (applied_nothing g.D.Disk c.args.state.now.records old c.args.store.now there law.stays law.only_now
+    new (ap (core_of running old.log old.side) found.same))
 
 pub returns-in-Err : goal.returns-in-Err
 returns-in-Err g c = λ running.

@@ -18,4 +18,4 @@ use Rattle.spec_history.proofs.witness.a_write_marks_its_block.Goals as goal
 pub returns : goal.returns
 unfolding number nobody at put without put_at on_propose on_pax starts learns on_news applies on_ask goes_on on_write on_reserve on_reserved on_pair_full
     on_replicate on_replicated on_read handles hears_log does log_does heard ticked refusal next_retired repairs step
-returns c = record { primary = refl; secondary = refl; marked = refl; still_marked = refl; records = refl; unmarked = refl }
+returns c = record { primary = refl; secondary = refl; marked = refl; still_marked = refl; unmarked = refl }

@@ -1,7 +1,8 @@
 -- It is older, or answered again.
-use Rattle.std.proofs.Common.{◌≡◌, ◌≤◌, ℕ, Bool, true, false, ◌==◌, Option, refl, ap, ◌∙◌, arith}
+use Rattle.std.proofs.Common.{◌≡◌, ◌≤◌, ℕ, Bool, true, false, ◌==◌, ◌&&◌, Option, refl, ap, ◌∙◌, arith}
 use Rattle.std.proofs.lemmas.Bool.Decides.{nat_tests}
 use Rattle.std.specs.Prelude.{nat_lt, if◌then◌else◌}
+use Rattle.petal_base.specs.Limits.{client_limit}
 use Rattle.petal_msg.specs.declared.operation.Finished.{Finished}
 use Rattle.spec_rules.specs.State.{is_lead}
 use Rattle.spec_rules.specs.Server.{PairState, JobContext, silent}
@@ -21,5 +22,6 @@ kept here own want last true false false h = let e = h refl in cc
 pub returns : goal.returns
 unfolding on_write
 returns c here own want last is le =
-    ap (λ (o : Option Finished). (if is_lead here.state here.me want.cell then takes here own want (standing o want.seq) else silent own).own) is
-    ∙ kept here own want last (is_lead here.state here.me want.cell) (nat_lt want.seq last.seq) (want.seq == last.seq) (equal want.seq last.seq le)
+    let takes_it : Bool = is_lead here.state here.me want.cell && nat_lt want.client client_limit in
+    ap (λ (o : Option Finished). (if takes_it then takes here own want (standing o want.seq) else silent own).own) is
+    ∙ kept here own want last takes_it (nat_lt want.seq last.seq) (want.seq == last.seq) (equal want.seq last.seq le)

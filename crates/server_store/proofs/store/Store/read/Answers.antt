@@ -2,6 +2,7 @@ use Rattle.std.proofs.Common.{◌∙◌, ◌≡◌, sym, Some, None}
 use Rattle.petal_disk.specs.Disk.{part}
 use Rattle.data_device.specs.Slots.{slot_start}
 use Rattle.server_store.proofs.Contents.{found-listed, found-content}
+use Rattle.server_store.proofs.Opening.{keeps_within}
 use Rattle.server_store.proofs.store.Store.read.Goals as goal
 use Rattle.petal_base.specs.Block.{block_bytes}
 
@@ -28,3 +29,13 @@ returns-in-None-clause-content g c observed =
     let file = g.D.Disk.seen c.self.inside.disk in
     rw (← c.self.view_is) (c.write_zeros.ensures ∙ found-content file (record { map = c.args.map; block = c.args.block; epoch = c.args.epoch })
     c.self.inside.ledger.entries None (sym c.in-None.is ∙ c.lookup-found.ensures.found))
+
+pub returns-in_err-read-in-Some-clause-holds : goal.returns-in_err-read-in-Some-clause-holds
+returns-in_err-read-in-Some-clause-holds g c observed =
+    let own = c.self.inside in
+    rw (← c.self.view_is, c.read.ensures.seen) (λ h. keeps_within own.ledger.slots own.log _ _ _ _ c.read.ensures.crash h)
+
+pub returns-in_ok-read-in-Some-clause-holds : goal.returns-in_ok-read-in-Some-clause-holds
+returns-in_ok-read-in-Some-clause-holds g c observed =
+    let own = c.self.inside in
+    rw (← c.self.view_is, c.read.ensures.seen) (λ h. keeps_within own.ledger.slots own.log _ _ _ _ c.read.ensures.crash h)

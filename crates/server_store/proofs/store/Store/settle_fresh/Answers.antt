@@ -1,7 +1,24 @@
-use Rattle.std.proofs.Common.{arith}
-use Rattle.std.proofs.lemmas.Grind.{common_steps}
+use Rattle.std.proofs.Common.{◌≡◌, ◌∙◌, Bool, true, false, if◌then◌else◌, [], ◌∷◌, Ok, refl, sym, ap}
+use Rattle.data_device.specs.declared.record.StoreRecord.TheVariants as records
+use Rattle.server_store.specs.Holdings.{kept_in}
 use Rattle.server_store.proofs.Changes.{listed_still}
+use Rattle.server_store.proofs.Steps.{done, idle, kept_anew, kept_as, kept_still, ok_fine, refused, view_of}
+use Rattle.server_store.proofs.Needed.{settled_changes, settled_fits}
+use Rattle.data_device.specs.Kept.{Kept, kept_after}
 use Rattle.server_store.proofs.store.Store.settle_fresh.Goals as goal
+
+pub returns-then-not-self-clause-committed : goal.returns-then-not-self-clause-committed
+returns-then-not-self-clause-committed g c =
+    let laws = g.met.D.Disk g.world.𝓛 g.world.𝓜 g.world.𝓡 ((λ s x. x), (λ x. x), (λ x. x), λ x. x) in
+    let own = c.self.inside in
+    rw (← c.self.view_is)
+    (idle g.D.Disk own.ledger own.marks.marks own.rows.rows own.fresh own.log own.disk c.self.invariant.kept (Ok tt) own.ledger.tickets _ []
+    (laws.only_now own.disk) (laws.stays own.disk) (ok_fine tt))
+
+pub commit-requires-clause-fits : goal.commit-requires-clause-fits
+commit-requires-clause-fits g c _ _ slots =
+    let own = c.self.inside in
+    rw c.self.invariant.kept (settled_fits slots (kept_as own.ledger own.marks.marks own.rows.rows own.fresh) c.self.invariant.within)
 
 pub returns-in_err-commit-clause-listed : goal.returns-in_err-commit-clause-listed
 returns-in_err-commit-clause-listed g c = rw (← c.self.view_is) (listed_still _ _ c.self.inside.ledger.entries)
@@ -11,25 +28,41 @@ returns-clause-listed g c = rw (← c.self.view_is) (listed_still _ _ c.self.ins
 
 pub returns-in_err-commit-clause-committed : goal.returns-in_err-commit-clause-committed
 returns-in_err-commit-clause-committed g c =
-    record {
-      records = grind (arith, common_steps);
-      unrecorded = grind (arith, common_steps);
-      holds = grind (arith, common_steps);
-      either = λ observed. rw (← c.self.view_is) (λ h. c.commit.ensures.either observed c.self.inside.ledger.slots _ h);
-      any_moment = λ observed. rw (← c.self.view_is) (λ h. c.commit.ensures.any_moment observed c.self.inside.ledger.slots _ h);
-      cause = grind (arith, common_steps);
-      run = grind (arith, common_steps);
-    }
+    let own = c.self.inside in
+    let there : own.fresh ≡ true = c.if-not-self.false in
+    let entries : (if own.fresh then records.Settled ∷ [] else []) ≡ records.Settled ∷ [] =
+    ap (λ (b : Bool). if b then records.Settled ∷ [] else []) there in
+    rw (← c.self.view_is, entries) (refused g.D.Disk own.ledger own.marks.marks own.rows.rows own.fresh own.log own.disk c.self.invariant.kept
+    (records.Settled ∷ []) [] c.commit.new.log c.commit.new.disk
+    (settled_changes (kept_in (view_of g.D.Disk own.ledger own.marks.marks own.rows.rows own.fresh own.log own.disk)) there) c.commit.ensures.fresh
+    (λ observed h. c.commit.ensures.either observed own.ledger.slots _ h) (λ observed h. c.commit.ensures.any_moment observed own.ledger.slots _ h)
+    c.commit.ensures.run
+    c.in_err-commit.field-0.0 c.from_residual.result c.from_residual.ensures c.in_err-commit.ensures.cause)
 
 pub returns-clause-committed : goal.returns-clause-committed
 returns-clause-committed g c =
-    record {
-      records = grind (arith, common_steps);
-      unrecorded = grind (arith, common_steps);
-      holds = λ observed. rw (← c.self.view_is, c.commit.ensures.contents observed c.self.inside.ledger.entries)
-          (λ h. c.in_ok-commit.ensures.keeps observed c.self.inside.ledger.slots _ h);
-      either = λ observed. rw (← c.self.view_is) (λ h. c.commit.ensures.either observed c.self.inside.ledger.slots _ h);
-      any_moment = λ observed. rw (← c.self.view_is) (λ h. c.commit.ensures.any_moment observed c.self.inside.ledger.slots _ h);
-      cause = grind (arith, common_steps);
-      run = grind (arith, common_steps);
-    }
+    let own = c.self.inside in
+    let there : own.fresh ≡ true = c.if-not-self.false in
+    let entries : (if own.fresh then records.Settled ∷ [] else []) ≡ records.Settled ∷ [] =
+    ap (λ (b : Bool). if b then records.Settled ∷ [] else []) there in
+    rw (← c.self.view_is, entries) (done g.D.Disk own.ledger own.marks.marks own.rows.rows own.fresh own.log own.disk c.self.invariant.kept
+    (records.Settled ∷ []) [] c.commit.new.log c.commit.new.disk
+    (settled_changes (kept_in (view_of g.D.Disk own.ledger own.marks.marks own.rows.rows own.fresh own.log own.disk)) there) c.commit.ensures.fresh
+    (λ observed h. c.commit.ensures.either observed own.ledger.slots _ h) (λ observed h. c.commit.ensures.any_moment observed own.ledger.slots _ h)
+    c.commit.ensures.run
+    tt own.ledger own.marks.marks own.rows.rows false c.in_ok-commit.ensures.cause refl
+    (λ observed. rw (c.commit.ensures.contents observed own.ledger.entries) refl)
+    (λ observed h. c.in_ok-commit.ensures.keeps observed own.ledger.slots _ h))
+
+pub invariant_of-self : goal.invariant_of-self
+invariant_of-self g c =
+    let own = c.self.inside in
+    kept_still own.ledger own.marks own.rows own.fresh own.log c.commit.new.log own.buffer _ _ _ c.self.invariant c.in_err-commit.ensures.err
+    c.commit.ensures.size refl
+
+pub invariant_of-self-2 : goal.invariant_of-self-2
+invariant_of-self-2 g c =
+    let own = c.self.inside in
+    kept_anew own.ledger own.ledger own.marks own.marks own.rows own.rows own.fresh false own.log c.commit.new.log own.buffer _ _ _
+    c.self.invariant refl (c.in_ok-commit.ensures.ok ∙ ap (λ (k : Kept). kept_after k (records.Settled)) c.self.invariant.kept)
+    (c.self.invariant.within) c.self.invariant.room c.commit.ensures.size refl

@@ -1,9 +1,13 @@
-use Rattle.std.proofs.Common.{◌≡◌, ◌∙◌, false, sym, arith}
-use Rattle.std.proofs.lemmas.Grind.{common_steps}
+use Rattle.std.proofs.Common.{◌≡◌, ◌∙◌, true, false, [], ◌∷◌, Ok, refl, sym, List, ap}
 use Rattle.busy_marks.specs.declared.marks.Mark.{Mark}
 use Rattle.busy_marks.specs.Marks.{has_mark}
 use Rattle.busy_marks.proofs.Sets.{not_marked}
+use Rattle.data_device.specs.declared.record.StoreRecord.TheVariants as records
+use Rattle.server_store.specs.Holdings.{kept_in}
 use Rattle.server_store.proofs.Changes.{listed_still}
+use Rattle.server_store.proofs.Steps.{done, idle, kept_anew, kept_as, kept_still, ok_fine, refused, view_of}
+use Rattle.server_store.proofs.Needed.{unmark_changes, unmark_fits}
+use Rattle.data_device.specs.Kept.{Kept, kept_after}
 use Rattle.server_store.proofs.store.Store.unmark.Goals as goal
 
 pub returns-then-not-has-clause-ok : goal.returns-then-not-has-clause-ok
@@ -13,6 +17,20 @@ returns-then-not-has-clause-ok g c =
     let none : has_mark m marks ≡ false = sym c.has.ensures ∙ c.if-not-has.true in
     rw (← c.self.view_is) (sym (not_marked m marks none))
 
+pub returns-then-not-has-clause-committed : goal.returns-then-not-has-clause-committed
+returns-then-not-has-clause-committed g c =
+    let laws = g.met.D.Disk g.world.𝓛 g.world.𝓜 g.world.𝓡 ((λ s x. x), (λ x. x), (λ x. x), λ x. x) in
+    let own = c.self.inside in
+    rw (← c.self.view_is)
+    (idle g.D.Disk own.ledger own.marks.marks own.rows.rows own.fresh own.log own.disk c.self.invariant.kept (Ok tt) own.ledger.tickets _ []
+    (laws.only_now own.disk) (laws.stays own.disk) (ok_fine tt))
+
+pub commit-requires-clause-fits : goal.commit-requires-clause-fits
+commit-requires-clause-fits g c _ _ slots =
+    let own = c.self.inside in
+    let m : Mark = record { kind = c.args.kind; cell = c.args.cell } in
+    rw c.self.invariant.kept (unmark_fits slots (kept_as own.ledger own.marks.marks own.rows.rows own.fresh) m c.self.invariant.within)
+
 pub returns-in_err-commit-clause-listed : goal.returns-in_err-commit-clause-listed
 returns-in_err-commit-clause-listed g c = rw (← c.self.view_is) (listed_still _ _ c.self.inside.ledger.entries)
 
@@ -21,25 +39,42 @@ returns-clause-listed g c = rw (← c.self.view_is) (listed_still _ _ c.self.ins
 
 pub returns-in_err-commit-clause-committed : goal.returns-in_err-commit-clause-committed
 returns-in_err-commit-clause-committed g c =
-    record {
-      records = grind (arith, common_steps);
-      unrecorded = grind (arith, common_steps);
-      holds = grind (arith, common_steps);
-      either = λ observed. rw (← c.self.view_is) (λ h. c.commit.ensures.either observed c.self.inside.ledger.slots _ h);
-      any_moment = λ observed. rw (← c.self.view_is) (λ h. c.commit.ensures.any_moment observed c.self.inside.ledger.slots _ h);
-      cause = grind (arith, common_steps);
-      run = grind (arith, common_steps);
-    }
+    let own = c.self.inside in
+    let m : Mark = record { kind = c.args.kind; cell = c.args.cell } in
+    let there : has_mark m own.marks.marks ≡ true = sym c.has.ensures ∙ c.if-not-has.false in
+    rw (← c.self.view_is, there) (refused g.D.Disk own.ledger own.marks.marks own.rows.rows own.fresh own.log own.disk c.self.invariant.kept
+    (records.Unmark c.args.kind c.args.cell ∷ []) [] c.commit.new.log c.commit.new.disk
+    (unmark_changes (kept_in (view_of g.D.Disk own.ledger own.marks.marks own.rows.rows own.fresh own.log own.disk)) m there) c.commit.ensures.fresh
+    (λ observed h. c.commit.ensures.either observed own.ledger.slots _ h) (λ observed h. c.commit.ensures.any_moment observed own.ledger.slots _ h)
+    c.commit.ensures.run
+    c.in_err-commit.field-0.0 c.from_residual.result c.from_residual.ensures c.in_err-commit.ensures.cause)
 
 pub returns-clause-committed : goal.returns-clause-committed
 returns-clause-committed g c =
-    record {
-      records = grind (arith, common_steps);
-      unrecorded = grind (arith, common_steps);
-      holds = λ observed. rw (← c.self.view_is, c.clear.ensures.marks, c.commit.ensures.contents observed c.self.inside.ledger.entries)
-          (λ h. c.in_ok-commit.ensures.keeps observed c.self.inside.ledger.slots _ h);
-      either = λ observed. rw (← c.self.view_is) (λ h. c.commit.ensures.either observed c.self.inside.ledger.slots _ h);
-      any_moment = λ observed. rw (← c.self.view_is) (λ h. c.commit.ensures.any_moment observed c.self.inside.ledger.slots _ h);
-      cause = grind (arith, common_steps);
-      run = grind (arith, common_steps);
-    }
+    let own = c.self.inside in
+    let m : Mark = record { kind = c.args.kind; cell = c.args.cell } in
+    let there : has_mark m own.marks.marks ≡ true = sym c.has.ensures ∙ c.if-not-has.false in
+    rw (← c.self.view_is, there) (done g.D.Disk own.ledger own.marks.marks own.rows.rows own.fresh own.log own.disk c.self.invariant.kept
+    (records.Unmark c.args.kind c.args.cell ∷ []) [] c.commit.new.log c.commit.new.disk
+    (unmark_changes (kept_in (view_of g.D.Disk own.ledger own.marks.marks own.rows.rows own.fresh own.log own.disk)) m there) c.commit.ensures.fresh
+    (λ observed h. c.commit.ensures.either observed own.ledger.slots _ h) (λ observed h. c.commit.ensures.any_moment observed own.ledger.slots _ h)
+    c.commit.ensures.run
+    tt own.ledger c.clear.new.self.marks own.rows.rows own.fresh c.in_ok-commit.ensures.cause refl
+    (λ observed. rw (c.clear.ensures.marks, c.commit.ensures.contents observed own.ledger.entries) refl)
+    (λ observed h. c.in_ok-commit.ensures.keeps observed own.ledger.slots _ h))
+
+pub invariant_of-self : goal.invariant_of-self
+invariant_of-self g c =
+    let own = c.self.inside in
+    kept_still own.ledger own.marks own.rows own.fresh own.log c.commit.new.log own.buffer _ _ _ c.self.invariant c.in_err-commit.ensures.err
+    c.commit.ensures.size refl
+
+pub invariant_of-self-2 : goal.invariant_of-self-2
+invariant_of-self-2 g c =
+    let own = c.self.inside in
+    let m : Mark = record { kind = c.args.kind; cell = c.args.cell } in
+    kept_anew own.ledger own.ledger own.marks c.clear.new.self own.rows own.rows own.fresh own.fresh own.log c.commit.new.log own.buffer _ _ _
+    c.self.invariant refl (c.in_ok-commit.ensures.ok ∙ ap (λ (k : Kept). kept_after k (records.Unmark c.args.kind c.args.cell)) c.self.invariant.kept
+    ∙ ap (λ (ms : List Mark). record { entries = own.ledger.entries; marks = ms; rows = own.rows.rows; fresh = own.fresh }) (sym c.clear.ensures.marks))
+    (rw c.clear.ensures.marks (unmark_fits 0 (kept_as own.ledger own.marks.marks own.rows.rows own.fresh) m c.self.invariant.within).0.1)
+    c.self.invariant.room c.commit.ensures.size refl

@@ -2,6 +2,7 @@ use Rattle.std.proofs.Common.{sym, ◌∙◌}
 use Rattle.pair_memory.specs.PairMemory.{own_of}
 use Rattle.pair_memory.proofs.Said.{said_done}
 use Rattle.write_pair.proofs.Moves.{not_moved, own_is, goes_some, goes_none}
+use Rattle.write_pair.proofs.Refused.{refused}
 use Rattle.write_pair.proofs.lead.actions.go_on.Goals as goal
 
 pub act-requires-clause-moved : goal.act-requires-clause-moved
@@ -22,3 +23,8 @@ returns-in-None-clause-job g c =
     let law = g.met.D.Disk g.world.𝓛 g.world.𝓜 g.world.𝓡 ((λ s x. x), (λ x. x), (λ x. x), λ x. x) in
     rw (← (goes_none c.args.here.now (own_of c.args.side.now c.args.store.now) c.args.cell is))
     (said_done g.D.Disk law.stays law.only_now c.args.here.now _ _ _ _ c.silent.result _ c.silent.ensures)
+
+pub returns-in_err-op-clause-job : goal.returns-in_err-op-clause-job
+returns-in_err-op-clause-job g c =
+    let law = g.met.D.Disk g.world.𝓛 g.world.𝓜 g.world.𝓡 ((λ s x. x), (λ x. x), (λ x. x), λ x. x) in
+    refused g.D.Disk law.stays law.only_now c.args.here.now c.args.side.now c.args.store.now c.from_residual.result _ c.from_residual.ensures.1

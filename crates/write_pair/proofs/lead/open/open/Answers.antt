@@ -1,11 +1,9 @@
 use Rattle.std.proofs.Common.{Err, nat_lt, sym, ap, ◌∙◌}
+use Rattle.std.proofs.lemmas.Result.{err_from_is_err_and}
 use Rattle.kept_chains.specs.Kept.{store_of}
 use Rattle.pair_memory.proofs.Said.{all_same, full_done, said_done}
 use Rattle.spec_rules.specs.Store.{free_of}
-use Rattle.pair_memory.specs.JobResult.{IsDone, held}
-use Rattle.pair_memory.specs.PairMemory.{own_of}
-use Rattle.write_pair.specs.Opened.{begun}
-use Rattle.write_pair.proofs.Opens.{full_back, not_opened, of_error, opened_done, opened_tickets, slot_some, slot_out, side_back, store_back}
+use Rattle.write_pair.proofs.Opens.{full_back, not_opened, opened_done, opened_tickets, slot_some, slot_out, side_back, store_back, unopened_done}
 use Rattle.write_pair.proofs.lead.open.open.Goals as goal
 
 pub go_on-requires-clause-ready : goal.go_on-requires-clause-ready
@@ -53,20 +51,20 @@ returns-in-Err-NoMemory-clause-same g c _ =
     (c.in-Err-NoMemory.ensures.job.same (ap Err c.in-Err-NoMemory.field-0-is)).0
     (c.in-Err-NoMemory.ensures.same (ap Err c.in-Err-NoMemory.field-0-is)) c.take_back.new.store c.take_back.ensures.store
 
-pub take_back-requires-in-Err-JournalFull-clause-some : goal.take_back-requires-in-Err-JournalFull-clause-some
-take_back-requires-in-Err-JournalFull-clause-some g c κs within =
-    let full = c.in-Err-JournalFull.ensures.job.full (ap Err c.in-Err-JournalFull.field-0-is) in
+pub take_back-requires-in-Err-NoRoom-clause-some : goal.take_back-requires-in-Err-NoRoom-clause-some
+take_back-requires-in-Err-NoRoom-clause-some g c κs within =
+    let full = c.in-Err-NoRoom.ensures.job.full (ap Err c.in-Err-NoRoom.field-0-is) in
     slot_some c.args.op.now c.args.side.now c.args.store.now c.requires.ready.tickets c.requires.none c.begin.new.side c.begin.new.store
     (c.in_ok-begin.ensures.yes c.if-not-branch.false) c.go_on.new.side c.go_on.new.store full.same.0 full.same.1
 
-pub take_back-requires-in-Err-JournalFull-clause-out : goal.take_back-requires-in-Err-JournalFull-clause-out
-take_back-requires-in-Err-JournalFull-clause-out g c κs within =
-    let full = c.in-Err-JournalFull.ensures.job.full (ap Err c.in-Err-JournalFull.field-0-is) in
+pub take_back-requires-in-Err-NoRoom-clause-out : goal.take_back-requires-in-Err-NoRoom-clause-out
+take_back-requires-in-Err-NoRoom-clause-out g c κs within =
+    let full = c.in-Err-NoRoom.ensures.job.full (ap Err c.in-Err-NoRoom.field-0-is) in
     slot_out c.args.op.now c.args.side.now c.args.store.now c.requires.ready.tickets c.requires.none c.begin.new.side c.begin.new.store
     (c.in_ok-begin.ensures.yes c.if-not-branch.false) c.go_on.new.side c.go_on.new.store full.same.0 full.same.1 c.requires.new
 
-pub returns-in-Err-JournalFull-clause-job : goal.returns-in-Err-JournalFull-clause-job
-returns-in-Err-JournalFull-clause-job g c =
+pub returns-in-Err-NoRoom-clause-job : goal.returns-in-Err-NoRoom-clause-job
+returns-in-Err-NoRoom-clause-job g c =
     let law = g.met.D.Disk g.world.𝓛 g.world.𝓜 g.world.𝓡 ((λ s x. x), (λ x. x), (λ x. x), λ x. x) in
     let h = rw (← c.side.view_is) at c.requires.ready.tickets in
     let none = rw (← c.side.view_is) at c.requires.none in
@@ -75,9 +73,9 @@ returns-in-Err-JournalFull-clause-job g c =
     rw (← c.side.view_is)
     (full_done g.D.Disk law.stays law.only_now c.args.here.now _ _ _ _ _
     (full_back c.args.op.now _ c.args.store.now h none c.begin.new.side c.begin.new.store begun
-    c.args.here.now c.go_on.new.side c.take_back-in-Err-JournalFull.new.side c.go_on.new.store c.take_back-in-Err-JournalFull.new.store
-    (nat_lt 0 (free_of (store_of c.args.store.now))) room (c.in-Err-JournalFull.ensures.job.full (ap Err c.in-Err-JournalFull.field-0-is))
-    c.take_back-in-Err-JournalFull.ensures.side c.take_back-in-Err-JournalFull.ensures.store))
+    c.args.here.now c.go_on.new.side c.take_back-in-Err-NoRoom.new.side c.go_on.new.store c.take_back-in-Err-NoRoom.new.store
+    (nat_lt 0 (free_of (store_of c.args.store.now))) room (c.in-Err-NoRoom.ensures.job.full (ap Err c.in-Err-NoRoom.field-0-is))
+    c.take_back-in-Err-NoRoom.ensures.side c.take_back-in-Err-NoRoom.ensures.store))
 
 pub returns-in-Ok-clause-job : goal.returns-in-Ok-clause-job
 returns-in-Ok-clause-job g c =
@@ -105,8 +103,14 @@ returns-in_err-begin-clause-job g c =
     let old = c.args.side.now in
     let store = c.args.store.now in
     let room = nat_lt 0 (free_of (store_of store)) in
-    of_error
-    (λ result. IsDone g.D.Disk here (held old store) (held c.begin.new.side c.begin.new.store) result (begun here (own_of old store) op room))
-    c.in_err-begin.field-0.0 c.from_residual.result c.from_residual.ensures
+    let error = err_from_is_err_and c.from_residual.result c.from_residual.ensures.1 in
+    rw (error.1, error.2)
     (not_opened op old store c.requires.ready.tickets c.requires.none here g.D.Disk law.stays law.only_now c.begin.new.side c.begin.new.store
     room c.in_err-begin.field-0.0 c.in_err-begin.ensures.err.0 c.in_err-begin.ensures.err.1 c.in_err-begin.ensures.why)
+
+pub returns-then-not-branch-clause-job : goal.returns-then-not-branch-clause-job
+returns-then-not-branch-clause-job g c =
+    let law = g.met.D.Disk g.world.𝓛 g.world.𝓜 g.world.𝓡 ((λ s x. x), (λ x. x), (λ x. x), λ x. x) in
+    let same = c.in_ok-begin.ensures.no c.if-not-branch.true in
+    unopened_done c.args.op.now c.args.side.now c.args.store.now c.requires.ready.tickets c.requires.none c.args.here.now g.D.Disk law.stays law.only_now
+    c.begin.new.side c.end.new.side c.begin.new.store c.end.result _ (sym c.in_ok-begin.ensures.room ∙ c.if-not-branch.true) same.0 same.1 c.end.ensures

@@ -1,6 +1,8 @@
-use Rattle.std.proofs.Common.{sym, ◌∙◌}
+use Rattle.std.proofs.Common.{rules, sym, ◌∙◌}
+use Rattle.spec_rules.specs.Writes.{on_replicated}
 use Rattle.pair_memory.specs.PairMemory.{own_of}
 use Rattle.write_pair.proofs.Leads.{replicating, replicated_is}
+use Rattle.write_pair.proofs.Refused.{refused, said_as}
 use Rattle.write_pair.proofs.lead.replies.on_replicated.Goals as goal
 
 pub returns-in-Some-clause-job : goal.returns-in-Some-clause-job
@@ -9,3 +11,14 @@ returns-in-Some-clause-job g c =
     let waits = replicating c.in-Some.pending c.args.op c.if-branch-op.true c.if-branch.true c.if-not-branch.true in
     rw (← (replicated_is c.args.here.now (own_of c.args.side.now c.args.store.now) c.args.op c.args.cell c.in-Some.pending is waits))
     (rw c.with_paired.ensures at c.act.ensures.job)
+
+pub returns-in_err-pending-clause-job : goal.returns-in_err-pending-clause-job
+returns-in_err-pending-clause-job g c =
+    let law = g.met.D.Disk g.world.𝓛 g.world.𝓜 g.world.𝓡 ((λ s x. x), (λ x. x), (λ x. x), λ x. x) in
+    refused g.D.Disk law.stays law.only_now c.args.here.now c.args.side.now c.args.store.now c.from_residual.result _ c.from_residual.ensures.1
+
+pub returns-in_default-clause-job : goal.returns-in_default-clause-job
+unfolding on_replicated
+returns-in_default-clause-job g c =
+    let law = g.met.D.Disk g.world.𝓛 g.world.𝓜 g.world.𝓡 ((λ s x. x), (λ x. x), (λ x. x), λ x. x) in
+    said_as g.D.Disk law.stays law.only_now c.args.here.now _ _ _ _ c.silent.result _ _ c.silent.ensures (search rules)

@@ -2,6 +2,7 @@ use Rattle.std.proofs.Common.{ap, ◌∙◌}
 use Rattle.spec_rules.specs.Writes.{operation}
 use Rattle.pair_memory.specs.PairMemory.{PairMemory}
 use Rattle.write_pair.specs.Wanted.{wanted}
+use Rattle.write_pair.proofs.Refused.{refused}
 use Rattle.write_pair.proofs.lead.write.open_write.Goals as goal
 
 pub returns-clause-job : goal.returns-clause-job
@@ -9,3 +10,8 @@ returns-clause-job g c =
     let here = c.args.here.now in
     rw (← (c.in_ok-op.ensures ∙ ap (λ (s : PairMemory). operation here s.next (wanted c.args.want.now)) c.side.view_is))
     c.open.ensures.job
+
+pub returns-in_err-op-clause-job : goal.returns-in_err-op-clause-job
+returns-in_err-op-clause-job g c =
+    let law = g.met.D.Disk g.world.𝓛 g.world.𝓜 g.world.𝓡 ((λ s x. x), (λ x. x), (λ x. x), λ x. x) in
+    refused g.D.Disk law.stays law.only_now c.args.here.now c.args.side.now c.args.store.now c.from_residual.result _ c.from_residual.ensures.1

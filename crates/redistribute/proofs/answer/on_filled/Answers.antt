@@ -1,0 +1,30 @@
+use Rattle.std.proofs.Common.{◌≡◌, rules, subst}
+use Rattle.spec_rules.specs.Fills.{on_filled}
+use Rattle.spec_rules.specs.Server.{JobResult, silent}
+use Rattle.pair_memory.specs.JobResult.{IsDone, held}
+use Rattle.pair_memory.specs.PairMemory.{own_of}
+use Rattle.pair_memory.proofs.Said.{said_done}
+use Rattle.redistribute.proofs.answer.on_filled.Goals as goal
+
+pub returns-in_default : goal.returns-in_default
+unfolding on_filled
+returns-in_default g c =
+    let law = g.met.D.Disk g.world.𝓛 g.world.𝓜 g.world.𝓡 ((λ s x. x), (λ x. x), (λ x. x), λ x. x) in
+    let here = c.args.here.now in
+    let side = c.args.side.now in
+    let store = c.args.store.now in
+    let rule : silent (own_of side store) ≡ on_filled here (own_of side store) c.args.key = search rules in
+    subst (λ (r : JobResult). IsDone g.D.Disk here (held side store) (held side store) c.silent.result r) rule
+    (said_done g.D.Disk law.stays law.only_now here side side store store c.silent.result _ c.silent.ensures)
+
+pub returns-then-not-is_next : goal.returns-then-not-is_next
+unfolding on_filled
+returns-then-not-is_next g c =
+    let law = g.met.D.Disk g.world.𝓛 g.world.𝓜 g.world.𝓡 ((λ s x. x), (λ x. x), (λ x. x), λ x. x) in
+    let here = c.args.here.now in
+    let side = c.args.side.now in
+    let store = c.args.store.now in
+    let said = c.silent-then-not-is_next in
+    let rule : silent (own_of side store) ≡ on_filled here (own_of side store) c.args.key = search rules in
+    subst (λ (r : JobResult). IsDone g.D.Disk here (held side store) (held side store) said.result r) rule
+    (said_done g.D.Disk law.stays law.only_now here side side store store said.result _ said.ensures)

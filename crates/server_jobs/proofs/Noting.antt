@@ -1,1 +1,0 @@
--- What is noted of a link for whose Caught a ballot starts is the rule's.
