@@ -1,7 +1,7 @@
 -- By induction on the list: each record follows on the world, whose part for each actor is what that actor's own records leave.
-use Rattle.law_merge.proofs.Imports.{[], ◌∙◌, ◌∷◌, ◌≡◌, ◌≤◌, Actor, AreStepsFrom, Arm, Blank, Boot, Call, CallsInPhase, Deliver, Errand, Follows, Glance}
+use Rattle.law_merge.proofs.Imports.{[], ◌++◌, ◌∙◌, ◌∷◌, ◌≡◌, ◌≤◌, Actor, AreStepsFrom, Arm, Blank, Boot, Call, CallsInPhase, Deliver, Errand, Follows, Glance}
 use Rattle.law_merge.proofs.Imports.{List, MayClient, MayServer, MayStep, ObeyFrom, Record, Setting, Step, Stop, StopIn, Tick, Work, World, ap, errand_after}
-use Rattle.law_merge.proofs.Imports.{inl, inr, next_stamp, put_apart, put_at, put_same, refl, same_or_apart, step, stepped, subst, sym, ℕ}
+use Rattle.law_merge.proofs.Imports.{inl, inr, next_stamp, put_apart, put_at, put_same, refl, same_or_apart, step, stepped, subst, sym, world_after, ℕ}
 use Rattle.law_merge.specs.Alone.{ClientMayAlone, IsAlone, IsAloneClient, IsFor, IsInPhase, IsNextOf, IsNextOfClient, MayAlone, acted_by, of_client}
 use Rattle.law_merge.specs.Alone.{of_server, reacted_by}
 use Rattle.law_merge.specs.Joined.{AreJoined, IsAfterPhases, IsAmongOthers, IsInTurn, IsJoined, WasSent}
@@ -109,11 +109,11 @@ module _ (setting : Setting) where
     pub servers : (n : ℕ) → IsAlone setting n (w.servers n) (w.server_clocks n) (of_server n records)
     pub clients : (c : ℕ) → IsAloneClient setting c (w.clients c) (w.client_clocks c) (of_client c records)
 
-  own_server : (n : ℕ) (w : World) (own : Record) (later : List Record) → own.actor ≡ actor.Server n → AreAlone w (own ∷ later)
+  pub own_server : (n : ℕ) (w : World) (own : Record) (later : List Record) → own.actor ≡ actor.Server n → AreAlone w (own ∷ later)
       → IsAlone setting n (w.servers n) (w.server_clocks n) (own ∷ of_server n later)
   own_server n w own later is alone = subst (IsAlone setting n (w.servers n) (w.server_clocks n)) (server_first n own later is) (alone.servers n)
 
-  own_client : (c : ℕ) (w : World) (own : Record) (later : List Record) → own.actor ≡ actor.Client c → AreAlone w (own ∷ later)
+  pub own_client : (c : ℕ) (w : World) (own : Record) (later : List Record) → own.actor ≡ actor.Client c → AreAlone w (own ∷ later)
       → IsAloneClient setting c (w.clients c) (w.client_clocks c) (own ∷ of_client c later)
   own_client c w own later is alone = subst (IsAloneClient setting c (w.clients c) (w.client_clocks c)) (client_first c own later is) (alone.clients c)
 
@@ -162,10 +162,16 @@ module _ (setting : Setting) where
     clients = client_rest c w own later is alone;
   }
 
-  follows : {errand : Errand} (who : Actor) (w : World) (own : Record) (later : List Record) → own.actor ≡ who → AreAlone w (own ∷ later)
+  pub follows : {errand : Errand} (who : Actor) (w : World) (own : Record) (later : List Record) → own.actor ≡ who → AreAlone w (own ∷ later)
       → IsJoined setting w errand own → Follows setting w own
   follows (actor.Server n) w own later is alone joined = server_follows n w own is (own_server n w own later is alone).0 joined
   follows (actor.Client c) w own later is alone joined = client_follows c w own is (own_client c w own later is alone).0 joined
+
+  -- what is left after some of them
+  pub alone_after : (w : World) (prefix suffix : List Record) → AreAlone w (prefix ++ suffix) → AreAlone (world_after setting w prefix) suffix
+  alone_after w [] suffix alone = alone
+  alone_after w (own ∷ prefix) suffix alone =
+      alone_after (stepped setting w own).world prefix suffix (rest_of own.actor w own (prefix ++ suffix) refl alone)
 
   pub steps_from : (w : World) (errand : Errand) (records : List Record) → AreAlone w records → AreJoined setting w errand records
       → AreStepsFrom setting w records

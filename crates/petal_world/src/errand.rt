@@ -114,7 +114,7 @@ fn is_same_deed(one: Deed, other: Deed) -> bool
 
 impl Left {
     /// Those of a request.
-    fn of(request: &Request) -> Left
+    pub fn of(request: &Request) -> Left
         ensures { steps_left result ≡ steps_of request.now }
     {
         match request {
@@ -149,7 +149,7 @@ impl Left {
     }
 
     /// Without a stop of a server that is stopped, and a boot of one that runs.
-    fn due(self, running: bool) -> Left
+    pub fn due(self, running: bool) -> Left
         ensures { steps_left result ≡ due running (steps_left self) }
     {
         match self {
@@ -161,7 +161,7 @@ impl Left {
     }
 
     /// The first of them.
-    fn first(self) -> Option<Deed>
+    pub fn first(self) -> Option<Deed>
         ensures { given_in result ≡ first_step (steps_left self) }
     {
         match self {
@@ -185,7 +185,7 @@ impl Left {
     }
 
     /// Those after the first one.
-    fn rest(self) -> Left
+    pub fn rest(self) -> Left
         ensures { steps_left result ≡ drop 1 (steps_left self) }
     {
         match self {
@@ -200,7 +200,7 @@ impl Left {
 }
 
 /// The server that a request names.
-fn server_of(request: &Request) -> Option<ServerId>
+pub fn server_of(request: &Request) -> Option<ServerId>
     ensures { result ≡ (names request.now).server }
 {
     match request {

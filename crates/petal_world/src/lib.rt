@@ -7,12 +7,13 @@
 #![tactic(auto)]
 
 mod actors;
-mod blocks;
-mod control;
+pub mod blocks;
+pub mod control;
+pub mod copies;
 mod deciding;
-mod errand;
+pub mod errand;
 mod error;
-mod seat;
+pub mod seat;
 mod seats;
 mod step_result;
 mod taking;

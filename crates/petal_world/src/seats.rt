@@ -3,15 +3,15 @@
 ghost use Rattle.std.specs.Prelude.{◌≡◌, ◌<◌, false, max, map, Some, length, slice_get, slice_set, option_copied, IfOk, IfSome};
 ghost use Rattle.std.specs.List.{fold};
 ghost use Rattle.client_core.specs.ClientView.{is_spent};
-ghost use Rattle.spec_rules.specs.World.{lines_of, setting_of, start};
+ghost use Rattle.spec_rules.specs.World.{setting_of, start};
 ghost use Rattle.petal_world.specs.Seats.{CanTake, reacted_at, seat_of, seats_of};
 ghost use Rattle.petal_world.specs.declared.seat.Seat.{Seat};
 
+use crate::copies::lines_of;
 use crate::seat::Seat;
 use client_core::{ClientCore, ClientError, Reaction};
-use petal_base::{CLIENTS, ClientId, NoMemory, Sequence, Stamp};
-use script_lines::{Line, Script};
-use server_host::copies::line_again;
+use petal_base::{CLIENTS, ClientId, NoMemory, Stamp};
+use script_lines::Script;
 use spec_rules::Step;
 use std::alloc::Global;
 use std::marker::Model;
@@ -29,19 +29,6 @@ impl Model for Seats {
     ghost Value = { List Seat };
 
     ghost view = { λ s. s.seats.items };
-}
-
-/// The lines of a client, in order.
-fn lines_of(alloc: Global, lines: &[Line], client: ClientId) -> Result<Sequence<Line>, NoMemory>
-    ensures { IfOk result (λ own. own ≡ lines_of lines.now client) }
-{
-    let mut own = Sequence::new(alloc);
-    for line in lines {
-        if line.client == client {
-            own.push(line_again(line))?;
-        }
-    }
-    Ok(own)
 }
 
 /// A client of a run that begins.

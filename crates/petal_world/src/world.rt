@@ -21,15 +21,16 @@ ghost use Rattle.petal_world.specs.declared.error.WorldError.TheVariants as erro
 use crate::actors::Actors;
 use crate::blocks::Blocks;
 use crate::control::Control;
+use crate::copies::{letters_again, told_again};
 use crate::errand::Errand;
 use crate::seats::Seats;
 use crate::step_result::StepResult;
 use crate::{GaveUp, WorldError};
 use petal_base::{NoMemory, OPERATOR, Rev, Sequence, Stamp};
-use petal_msg::{Actor, SharedLetter};
-use script_lines::{Answer, Line, Script};
+use petal_msg::Actor;
+use script_lines::{Line, Script};
 use server_host::Host;
-use server_host::copies::{answer_again, step_taken};
+use server_host::copies::step_taken;
 use server_host::desks::Desks;
 use server_host::sent::Sent;
 use server_host::waiting::Waiting;
@@ -67,25 +68,6 @@ impl<H: Host> Model for World<H> {
         (record { script = w.script; records = w.records; phase = w.phase; floor = w.floor; over = w.over; free = w.free }) w.actors w.errand };
 }
 
-fn shared(letters: &[SharedLetter], alloc: Global) -> Result<Sequence<SharedLetter>, NoMemory>
-    ensures { IfOk result (λ again. again ≡ letters.now) }
-{
-    let mut again = Sequence::new(alloc);
-    for letter in letters {
-        again.push(letter.share()?)?;
-    }
-    Ok(again)
-}
-
-fn copy_answer(answer: &Option<(u32, Answer)>) -> Result<Option<(u32, Answer)>, NoMemory>
-    ensures { IfOk result (λ again. again ≡ answer.now) }
-{
-    match answer {
-        None => Ok(None),
-        Some((line, answer)) => Ok(Some((*line, answer_again(answer)?))),
-    }
-}
-
 /// The record of the step that was taken, which shares its letters and its answer with what the step tells.
 fn record(
     alloc: Global,
@@ -110,8 +92,8 @@ fn record(
         stamp,
         phase,
         step: step_taken(step, stepped.end)?,
-        sent: shared(stepped.letters.as_slice(), alloc)?,
-        answer: copy_answer(&stepped.answer)?,
+        sent: letters_again(alloc, stepped.letters.as_slice())?,
+        answer: told_again(&stepped.answer)?,
     })
 }
 

@@ -1,11 +1,11 @@
 //! What the schedule keeps of a client.
 
-use crate::backoff::Backoff;
 use client_core::{Order, order_of};
 use petal_base::{NoMemory, ServerId};
 use script_lines::{Line, Request, Script};
 use std::alloc::Global;
 use std::collections::VecDeque;
+use tick_backoff::Backoff;
 
 /// A line that is to be called.
 #[derive(Clone, Copy, Debug, PartialEq, Eq)]

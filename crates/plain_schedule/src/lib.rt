@@ -7,7 +7,6 @@
 #![tactic(auto)]
 
 mod answers;
-mod backoff;
 mod client_plan;
 mod mailboxes;
 mod playing;

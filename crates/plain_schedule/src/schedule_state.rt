@@ -1,11 +1,11 @@
 //! What the rounds keep beside the world.
 
-use crate::backoff::Backoff;
 use crate::client_plan::{ClientPlan, callers_of};
 use crate::mailboxes::Mailboxes;
 use petal_base::{CLIENTS, NoMemory};
 use script_lines::Script;
 use std::alloc::Global;
+use tick_backoff::Backoff;
 
 /// The letters that are on their way, what each client has still to call, and how long each server waits to be ticked.
 #[derive(Drop)]

@@ -14,6 +14,7 @@ use petal_msg::{Actor, SharedLetter};
 use std::alloc::Global;
 use std::marker::Model;
 use std::sync::Wait;
+use std::time::{Clock, Duration};
 
 /// What tells of a letter or an end that was posted. Contracts see its number, what was posted under it, and the room.
 #[derive(Drop)]
@@ -167,12 +168,11 @@ impl Postroom {
         Ok(posted)
     }
 
-    // The next number that comes to the actor, where the room knows it and it is for the actor.
-    fn try_take<R: Wait>(&self, rt: &R, actor: Actor) -> Option<Posted>
+    // What a number that came to the actor tells of, where the room knows it and it is for the actor.
+    fn found(&self, actor: Actor, number: u64) -> Option<Posted>
         ensures shown { IfSome result (λ posted. Shows self.now posted) }
         ensures own { IfSome result (λ posted. addressee posted.value ≡ actor) }
     {
-        let number = self.channels.get(self.place_of(actor))?.from.recv(rt).ok()?;
         let token = self.mail.witness(number as usize)?;
         let to = addressee(self.mail.value(&token));
         if to == actor {
@@ -180,6 +180,14 @@ impl Postroom {
         } else {
             None
         }
+    }
+
+    fn try_take<R: Wait>(&self, rt: &R, actor: Actor) -> Option<Posted>
+        ensures shown { IfSome result (λ posted. Shows self.now posted) }
+        ensures own { IfSome result (λ posted. addressee posted.value ≡ actor) }
+    {
+        let number = self.channels.get(self.place_of(actor))?.from.recv(rt).ok()?;
+        self.found(actor, number)
     }
 
     /// What comes to the actor next. It waits until something comes; for an actor that the room does not have, for ever.
@@ -193,6 +201,21 @@ impl Postroom {
             }
         }
         unreachable!()
+    }
+
+    /// What comes to the actor within a time; None where nothing does.
+    pub fn take_within<R: Wait + Clock>(
+        &self,
+        rt: &R,
+        actor: Actor,
+        time: Duration,
+    ) -> Option<Posted>
+        ensures shown { IfSome result (λ posted. Shows self.now posted) }
+        ensures own { IfSome result (λ posted. addressee posted.value ≡ actor) }
+    {
+        let channel = self.channels.get(self.place_of(actor))?;
+        let number = channel.from.recv_timeout(rt, time).ok()?;
+        self.found(actor, number)
     }
 
     /// The letter that was posted; None exactly where it is an end.

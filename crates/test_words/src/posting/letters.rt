@@ -7,6 +7,7 @@ use postroom::Postroom;
 use std::alloc::Global;
 use std::sync::Wait;
 use std::test::Fail;
+use std::time::{Clock, Duration};
 
 const TO: Actor = Actor::Server(1);
 
@@ -106,5 +107,22 @@ fn what_is_taken_twice_is_one_letter(rt: HostRuntime) -> Result<(), Fail> {
     let first = room.take(&rt, TO);
     let second = room.take(&rt, TO);
     assert!(&rt; first.number() == second.number());
+    Ok(())
+}
+
+// The stamp of the letter that comes within a millisecond.
+fn soon<R: Wait + Clock>(rt: &R, room: &Postroom) -> Option<u64> {
+    let posted = room.take_within(rt, TO, Duration::from_millis(1))?;
+    Some(room.letter(&posted)?.get().stamp)
+}
+
+#[test]
+fn where_nothing_comes_within_the_time_none_is_told(rt: HostRuntime) -> Result<(), Fail> {
+    let alloc = rt.alloc();
+    let room = Postroom::new(alloc, 2, None, None)?;
+    assert!(&rt; soon(&rt, &room).is_none());
+    post_asks(&rt, alloc, &room, 1)?;
+    assert!(&rt; soon(&rt, &room) == Some(1));
+    assert!(&rt; soon(&rt, &room).is_none());
     Ok(())
 }

@@ -1,0 +1,9 @@
+pub mod RisingLists
+pub mod Firsts
+pub mod Orders
+pub mod KeptLists
+pub mod Senders
+pub mod Coming
+pub mod Following
+pub mod OneMore
+pub mod Mismatching

@@ -1,0 +1,4 @@
+pub mod Order
+pub mod Recorded
+pub mod Runs
+pub mod Fronts
